@@ -31,7 +31,7 @@ pub served_link : {D : Type 0} (stands : D → List Entry → Type 0) (is_full m
     → IsServedLink s limit first history pipe (served_told link line o accepted last)
 served_link stands is_full may_lack did keeps s limit first history link pipe line d d' o accepted last run begins mine_of alike full_of none =
     let mine : run.entries ≡ own s link history = mine_of run.entries (run.doer [] begins) in
-    let trail = loose_of is_full may_lack did keeps d d' run.mets run.trail in
+    let trail = loose_of is_full may_lack did keeps d d' run.mets run.entries run.trail in
     record {
       taken = run.taken;
       written = run.written;

@@ -1,4 +1,4 @@
-// Books and links in memory.
+//! Books and links in memory, for the tests of links and doors.
 ghost use Rattle.std.specs.Prelude.{◌≡◌, ◌≤◌, [], map, IfOk};
 ghost use Rattle.s7_plant.specs.Books.{seen_of};
 ghost use Rattle.s7_plant.specs.Journals.{entries_of};
@@ -19,7 +19,7 @@ pub(crate) fn a_link(alloc: Global, telegrams: &[&[u8]]) -> Option<MemoryLink> {
     MemoryLink::new(alloc, joined(alloc, telegrams)?, 8_192, 4_096, 7).ok()
 }
 
-// Data block 1, `11 22 33 44`.
+/// Data block 1 with `11 22 33 44`.
 fn some_areas(alloc: Global) -> Result<Areas, Memory> {
     let key = AreaKey {
         area: 0x84,
@@ -33,7 +33,7 @@ fn some_areas(alloc: Global) -> Result<Areas, Memory> {
     }
 }
 
-/// A book of data block 1, whose journal takes so many entries.
+/// A book of data block 1, whose journal has room for `limit` entries.
 pub(crate) fn a_book(alloc: Global, limit: u64) -> Result<Book<Tail>, Memory>
     requires some { 1 ≤ limit }
     requires few { limit ≤ 262144 }
@@ -46,7 +46,8 @@ pub(crate) fn a_book(alloc: Global, limit: u64) -> Result<Book<Tail>, Memory>
     Book::new(alloc, areas, blocks, limit, Vec::new(alloc))
 }
 
-/// The link ended as links do, wrote these answers, was shut then, and had so many entries.
+/// Reports whether a link ended without a fault, wrote these answers, was shut after them, and made this number of
+/// entries.
 pub(crate) fn is_answered<L>(
     served: &Served<L>,
     line: &MemoryLink,

@@ -1,6 +1,6 @@
-// A server that is called as the program calls it, on a port of this machine, and its callers.
-//
-// `server_main` is called in `serve` alone, since each function that calls it is costly to prove.
+//! A server that a test calls as the program calls it, on a port of this machine, and its callers.
+//!
+//! Only `serve` calls `server_main`, since each function that calls it is costly to prove.
 ghost use Rattle.std.specs.Prelude.{IfSome, None};
 ghost use Rattle.std.specs.List.{AllByRecursion};
 ghost use Rattle.s7_plant.specs.Observers.{IsFresh};
@@ -18,8 +18,8 @@ use std::sync::{OnceLock, Wait};
 use std::thread::{Threads, join};
 use std::time::Clock;
 
-/// A door over TCP that tells which port it listens on, as soon as it does: the one that it is asked for or, where that
-/// is taken, one of the next.
+/// A door over TCP that reports its port as soon as it listens. The port is the requested one, or one of the next if
+/// that is taken.
 #[derive(Drop)]
 struct TellingDoor<'a> {
     door: Doorway,
@@ -38,6 +38,7 @@ impl Door<Line> for TellingDoor<'_> {
       lent = None;
     } };
 
+    /// Listens, and reports the port.
     fn listen(&mut self, port: u16) -> Result<(), DoorFailed> {
         self.port = port;
         self.listens = self.listens.saturating_add(1);
@@ -50,6 +51,7 @@ impl Door<Line> for TellingDoor<'_> {
         Err(DoorFailed)
     }
 
+    /// The next link. A failure is counted.
     fn next(&mut self) -> Arrival<Line> {
         let came = next(&mut self.door);
         if matches!(came, Arrival::Failed) {
@@ -61,16 +63,16 @@ impl Door<Line> for TellingDoor<'_> {
 
 /// The area file of a server.
 pub(crate) enum AreaFile {
-    /// None.
+    /// There is no area file.
     Nothing,
-    /// This text.
+    /// The area file has this text.
     Text(&'static [u8]),
-    /// A file of no area, a first line and a comment, of so many octets.
+    /// The area file has no area: a first line, and a comment that fills it to this length.
     Long(usize),
 }
 
-/// How a server is called: with these words, over this area file, with a gate that keeps one link at its first request
-/// until the second request of another one, 0 for none, with a tail of this mask as its observer, and by whom.
+/// How a server is called: its words, its area file, the link that a gate delays at its first request and the link
+/// whose second request releases it (0 for none), the mask of the observer, and the callers.
 pub(crate) struct Call {
     pub(crate) words: &'static [&'static str],
     pub(crate) areas: AreaFile,
@@ -80,7 +82,8 @@ pub(crate) struct Call {
     pub(crate) callers: Callers,
 }
 
-/// What a server leaves, its output, whether its gate gave up, and what came to each of its callers.
+/// The state after a server: what came to each of its callers, its status, what it served, its output, and whether its
+/// gate gave up.
 #[derive(Drop)]
 pub(crate) struct Left {
     pub(crate) came: Vec<Vec<Octets>>,
@@ -90,7 +93,7 @@ pub(crate) struct Left {
     pub(crate) gave_up: bool,
 }
 
-// An area file of no area, a first line and a comment, of so many octets.
+/// An area file without an area: a first line, and a comment that fills it to this length.
 fn long_areas(alloc: Global, count: usize) -> Option<Vec<u8>> {
     let mut text = Vec::from_slice(alloc, b"s7 areas 1\n").ok()?;
     let comment = vec![in alloc; b'#'; 65_536].ok()?;
@@ -101,7 +104,7 @@ fn long_areas(alloc: Global, count: usize) -> Option<Vec<u8>> {
     Some(text)
 }
 
-// The files of a call.
+/// The files of a call.
 fn files(alloc: Global, areas: &AreaFile) -> Option<MemoryFiles> {
     let mut files = MemoryFiles::new();
     let text = match areas {
@@ -113,14 +116,17 @@ fn files(alloc: Global, areas: &AreaFile) -> Option<MemoryFiles> {
     Some(files)
 }
 
+/// A link over the standard streams.
 fn a_pipe(host: HostRuntime) -> Option<Line> {
     RealLink::standard(host.alloc(), host).ok()
 }
 
+/// An output of ample room.
 fn an_output(alloc: Global) -> Option<MemoryOut> {
     MemoryOut::new(alloc, 65_536).ok()
 }
 
+/// A door that reports its port.
 fn a_door(host: HostRuntime, told: &Told) -> TellingDoor<'_> {
     TellingDoor {
         door: TcpDoor::new(host),
@@ -131,7 +137,7 @@ fn a_door(host: HostRuntime, told: &Told) -> TellingDoor<'_> {
     }
 }
 
-// A tail that hears the codes of this mask, and has the newest event.
+/// An observer that is shown the events of this mask, and keeps the newest one.
 fn a_tail(alloc: Global, mask: u32) -> Option<Vec<Tail>>
     ensures { IfSome result (λ tails. AllByRecursion (λ o. IsFresh o) tails.items) }
 {
@@ -141,7 +147,7 @@ fn a_tail(alloc: Global, mask: u32) -> Option<Vec<Tail>>
     Some(tails)
 }
 
-// What serving leaves that a tail of this mask watches.
+/// The outcome of serving, watched by an observer of this mask.
 fn serve<R: Threads + Wait + Clock + Sync>(
     rt: &R,
     alloc: Global,
@@ -157,7 +163,7 @@ fn serve<R: Threads + Wait + Clock + Sync>(
     Some(server_main(rt, alloc, words, files, pipe, door, gate, out, tails))
 }
 
-// What a server leaves, to whose callers nothing came yet.
+/// The state after a server, without what came to its callers.
 fn left_by<R: Threads + Wait + Clock + Sync>(
     rt: &R,
     host: HostRuntime,
@@ -183,7 +189,7 @@ fn left_by<R: Threads + Wait + Clock + Sync>(
     })
 }
 
-// The same. A server that never asked its door to listen has no port told.
+/// The same. If the server never asked its door to listen, no port is reported.
 fn told_by<R: Threads + Wait + Clock + Sync>(
     rt: &R,
     host: HostRuntime,
@@ -195,7 +201,7 @@ fn told_by<R: Threads + Wait + Clock + Sync>(
     left
 }
 
-/// What a server leaves, and what comes to its callers beside it.
+/// The state after a server, and what came to its callers, who call while it serves.
 pub(crate) fn called<R: Threads + Wait + Clock + Sync>(
     rt: &R,
     host: HostRuntime,
@@ -213,8 +219,8 @@ pub(crate) fn called<R: Threads + Wait + Clock + Sync>(
     Some(left)
 }
 
-/// So many links were served, and made so many entries together. Each ended as links do, and its entries are the
-/// journal's under its number.
+/// Reports whether this number of links was served, and they made this number of entries together. Each link ended
+/// without a fault, and its entries are those of its number in the journal.
 pub(crate) fn is_whole(left: &Left, links: usize, entries: usize) -> Option<bool> {
     let run = left.run.as_ref()?;
     let journal = run.book.journal.as_slice();
@@ -229,7 +235,7 @@ pub(crate) fn is_whole(left: &Left, links: usize, entries: usize) -> Option<bool
     Some(all == entries && journal.len() == entries && run.links.len() == links && !run.door_failed)
 }
 
-// How many entries the link has.
+/// The number of entries of a link.
 fn count_of(journal: &[Entry], link: u32) -> usize {
     let mut count = 0usize;
     for entry in journal {

@@ -1,4 +1,4 @@
-// Who calls a server over TCP, once it listens.
+//! The callers of a server over TCP. They call once it listens.
 ghost use Rattle.std.specs.Prelude.{◌≡◌, None, IfOk};
 ghost use Rattle.s7_client.specs.Completions.{connection_of};
 ghost use Rattle.s7_client.specs.Polling.{job_of};
@@ -14,19 +14,19 @@ use std::alloc::Global;
 use std::sync::{OnceLock, Wait};
 use std::thread::{Threads, map_vec};
 
-/// The port that a server listens on, told once; none where it listens on none.
+/// The port on which a server listens, reported once. It is none if the server listens on no port.
 pub(crate) type Told = OnceLock<Option<u16>>;
 
 /// Who calls a server.
 pub(crate) enum Callers {
-    /// No one, where the server listens on no port.
+    /// Nobody, since the server listens on no port.
     Nobody,
-    /// Links of one caller that are opened one after another. Each sends its telegrams by one call, and takes what
-    /// comes up to its end.
+    /// Links of one caller, opened one after another. Each sends its telegrams by one call, and receives up to the end.
     AtOnce(&'static [&'static [&'static [u8]]]),
-    /// One caller of two links that are negotiated. The first one ends by what it sends, and then the second one reads.
+    /// One caller of two links that are negotiated. The first one ends by these octets, and the second one reads after
+    /// that.
     Ends(&'static [u8]),
-    /// One caller whose link sends a connect request, takes one octet of the answer and goes, which resets the
+    /// One caller whose link sends a connect request, receives one octet of the answer and is dropped, which resets the
     /// connection.
     Resets,
     /// A client that connects, reads four octets and disconnects.
@@ -38,7 +38,7 @@ pub(crate) enum Callers {
     Share,
 }
 
-// The port, once the server listens.
+/// The port, once the server listens.
 fn port_of<R: Wait>(rt: &R, told: &Told) -> Option<u16> {
     *told.wait(rt)
 }
@@ -58,7 +58,7 @@ pub(crate) fn come_to<R: Threads + Wait + Sync>(
     }
 }
 
-// What comes to one caller.
+/// What came to one caller.
 fn alone(host: HostRuntime, port: u16, callers: &Callers) -> Option<Vec<Vec<Octets>>> {
     let mut came = Vec::new(host.alloc());
     match callers {
@@ -73,7 +73,7 @@ fn alone(host: HostRuntime, port: u16, callers: &Callers) -> Option<Vec<Vec<Octe
     Some(all)
 }
 
-// A link that sent these telegrams by one call.
+/// A link that sent these telegrams by one call.
 fn opened(host: HostRuntime, port: u16, telegrams: &[&[u8]]) -> Option<Line> {
     let octets = joined(host.alloc(), telegrams)?;
     let mut line = call_here(&host, port)?;
@@ -84,7 +84,7 @@ fn opened(host: HostRuntime, port: u16, telegrams: &[&[u8]]) -> Option<Line> {
     }
 }
 
-// Links that are opened one after another.
+/// Links that are opened one after another.
 fn all_opened(host: HostRuntime, port: u16, asks: &[&[&[u8]]]) -> Option<Vec<Line>> {
     let mut lines = Vec::new(host.alloc());
     for telegrams in asks {
@@ -93,7 +93,7 @@ fn all_opened(host: HostRuntime, port: u16, asks: &[&[&[u8]]]) -> Option<Vec<Lin
     Some(lines)
 }
 
-// Appends what comes up to the end of each of the links.
+/// Appends the octets that come up to the end of each link.
 fn at_once(host: HostRuntime, port: u16, asks: &[&[&[u8]]], came: &mut Vec<Octets>) -> Option<()> {
     let mut lines = all_opened(host, port, asks)?;
     for line in lines.as_mut_slice() {
@@ -102,7 +102,7 @@ fn at_once(host: HostRuntime, port: u16, asks: &[&[&[u8]]], came: &mut Vec<Octet
     Some(())
 }
 
-// A link on which each of the telegrams is answered. The answers are appended.
+/// A link on which each telegram is answered. The answers are appended.
 fn a_link(
     host: HostRuntime,
     port: u16,
@@ -118,8 +118,8 @@ fn a_link(
     Some(line)
 }
 
-// Two links, of which one ends by what it sent and is told so, while the other one is still served. What came at its
-// end is appended last.
+/// Opens two links, of which the first ends by the octets that it sends, while the second is still served. The octets
+/// that came at the end of the first are appended last.
 fn one_ends(host: HostRuntime, port: u16, last: &[u8], came: &mut Vec<Octets>) -> Option<()> {
     let opening = packets(host.alloc(), &[CONNECT, SETUP])?;
     let mut first = a_link(host, port, opening.as_slice(), came)?;
@@ -132,7 +132,7 @@ fn one_ends(host: HostRuntime, port: u16, last: &[u8], came: &mut Vec<Octets>) -
     came.push(rest).ok()
 }
 
-// An octet comes on a link that sent a connect request.
+/// An octet comes on a link that sent a connect request.
 fn resets(host: HostRuntime, port: u16) -> Option<()> {
     let mut line = opened(host, port, &[CONNECT])?;
     let mut came = Vec::new(host.alloc());
@@ -146,7 +146,7 @@ fn resets(host: HostRuntime, port: u16) -> Option<()> {
     None
 }
 
-// What a caller of so many links sends on each: the only one is a client's.
+/// The telegrams that a caller sends on each of its links. A caller of one link writes data blocks.
 fn telegrams(alloc: Global, links: u8, number: u8) -> Option<Vec<Octets>> {
     if links == 1 {
         telegrams_of(alloc, number)
@@ -155,8 +155,8 @@ fn telegrams(alloc: Global, links: u8, number: u8) -> Option<Vec<Octets>> {
     }
 }
 
-// All answers that came to a caller, whose links come one after another. A link that goes wrong doesn't keep the next
-// one from coming, since the server waits for all of them.
+/// The answers that came to a caller, whose links are opened one after another. A link with a fault does not keep the
+/// next one from being opened, since the server waits for all of them.
 fn answers_to(host: HostRuntime, port: u16, links: u8, number: u8) -> Vec<Octets> {
     let mut answers = Vec::new(host.alloc());
     let Some(telegrams) = telegrams(host.alloc(), links, number) else {
@@ -168,7 +168,7 @@ fn answers_to(host: HostRuntime, port: u16, links: u8, number: u8) -> Vec<Octets
     answers
 }
 
-// What comes to so many callers beside one another, of so many links each.
+/// The answers that came to callers that call at the same time.
 fn many<R: Threads + Sync>(
     rt: &R,
     host: HostRuntime,
@@ -188,7 +188,7 @@ fn many<R: Threads + Sync>(
     .ok()
 }
 
-// Data block 1 from its first octet on.
+/// Four bytes of data block 1, from the first one on.
 const FOUR_BYTES: Item = Item {
     area: DATA_BLOCKS,
     db: 1,
@@ -197,14 +197,14 @@ const FOUR_BYTES: Item = Item {
     address: 0,
 };
 
-// A client that is told to nobody, and isn't connected.
+/// A client without a completion, which isn't connected.
 fn a_client(alloc: Global) -> Result<Client<Counter>, Memory>
     ensures { IfOk result (λ client. job_of (connection_of client) ≡ None) }
 {
     Client::new(alloc, Config::new(1, 0, 2), None)
 }
 
-// What comes of a job. None where there is no memory for it.
+/// The result of a job. There is none if memory is missing.
 fn done(alloc: Global, client: &mut Client<Counter>, job: Job, line: &mut Line) -> Option<JobResult>
     requires { job_of (connection_of client.old) ≡ None }
     ensures { job_of (connection_of client.new) ≡ None }
@@ -212,7 +212,7 @@ fn done(alloc: Global, client: &mut Client<Counter>, job: Job, line: &mut Line) 
     client.carry_out(alloc, job, line).ok()
 }
 
-// The octets of a job's result. None where its code isn't 0.
+/// The octets of a job's result. There are none if its code isn't 0.
 fn octets_of(
     alloc: Global,
     client: &mut Client<Counter>,
@@ -230,7 +230,7 @@ fn octets_of(
     }
 }
 
-// A job comes off.
+/// Reports whether a job succeeds.
 fn comes_off(alloc: Global, client: &mut Client<Counter>, job: Job, line: &mut Line) -> bool
     requires { job_of (connection_of client.old) ≡ None }
     ensures { job_of (connection_of client.new) ≡ None }
@@ -238,7 +238,7 @@ fn comes_off(alloc: Global, client: &mut Client<Counter>, job: Job, line: &mut L
     octets_of(alloc, client, job, line).is_some()
 }
 
-// What a client reads between its connect and its disconnect. None where a job doesn't come off.
+/// The octets that a client reads between its connect and its disconnect. There are none if a job doesn't succeed.
 fn octets_read(alloc: Global, client: &mut Client<Counter>, line: &mut Line) -> Option<Octets>
     requires { job_of (connection_of client.old) ≡ None }
 {
@@ -253,13 +253,13 @@ fn octets_read(alloc: Global, client: &mut Client<Counter>, line: &mut Line) -> 
     }
 }
 
-// What a client reads on a link.
+/// The octets that a client reads on a link.
 fn read_on(alloc: Global, line: &mut Line) -> Option<Octets> {
     let mut client = a_client(alloc).ok()?;
     octets_read(alloc, &mut client, line)
 }
 
-// What a client reads.
+/// The octets that a client reads on a new link.
 fn read_by_client(host: HostRuntime, port: u16) -> Option<Octets> {
     read_on(host.alloc(), &mut call_here(&host, port)?)
 }

@@ -1,9 +1,9 @@
-// How many links that come and go are answered.
+//! How the links of callers that come and go are answered.
 use crate::called::Left;
 use crate::telegrams::{ANSWER, CONFIRM, GRANTED, NO_ROOM, are};
 use s7_outer::Octets;
 
-/// How many links were opened, and how many reads were answered with the data and refused.
+/// The number of links that were opened, of reads that were answered with the data, and of reads that were refused.
 #[derive(Drop)]
 struct Answers {
     opened: usize,
@@ -12,7 +12,7 @@ struct Answers {
 }
 
 impl Answers {
-    // Counts the answer to a read.
+    /// Counts the answer to a read.
     fn count_read(&mut self, answer: &[u8]) {
         if answer == ANSWER {
             self.read = self.read.saturating_add(1);
@@ -22,7 +22,7 @@ impl Answers {
         }
     }
 
-    // Counts the answers on one link.
+    /// Counts the answers on one link.
     fn count(&mut self, answers: &[Octets]) -> Option<()> {
         let (opened, reads) = answers.split_at_checked(2)?;
         if are(opened, &[CONFIRM, GRANTED]) {
@@ -34,7 +34,7 @@ impl Answers {
         Some(())
     }
 
-    // Counts the answers that came to one caller.
+    /// Counts the answers that came to one caller.
     fn count_all(&mut self, answers: &[Octets]) -> Option<()> {
         for link in answers.chunks(4) {
             self.count(link)?;
@@ -43,7 +43,7 @@ impl Answers {
     }
 }
 
-// How the links of all callers were answered.
+/// The counts of the links of all callers.
 fn answers_in(came: &[Vec<Octets>]) -> Option<Answers> {
     let mut all = Answers {
         opened: 0,
@@ -56,7 +56,7 @@ fn answers_in(came: &[Vec<Octets>]) -> Option<Answers> {
     Some(all)
 }
 
-// The links have the numbers from 1 on.
+/// Reports whether the links have the numbers from 1 on.
 fn are_numbered(left: &Left) -> Option<bool> {
     let mut link = 0u32;
     for served in &left.run.as_ref()?.links {
@@ -68,7 +68,7 @@ fn are_numbered(left: &Left) -> Option<bool> {
     Some(true)
 }
 
-/// All links came and went, and so many reads were answered with the data, and so many refused.
+/// Reports whether all links were opened and ended, and these numbers of reads were answered with the data and refused.
 pub(crate) fn are_answered(left: &Left, read: usize, refused: usize) -> Option<bool> {
     let all = answers_in(left.came.as_slice())?;
     let are_counted = all.opened == 200 && all.read == read && all.refused == refused;

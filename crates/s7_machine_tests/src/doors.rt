@@ -1,7 +1,7 @@
-// Links that come by a door in memory: how many of them are served, how they are answered, and in which order the door
-// and the links are called.
-//
-// `serve_door` is called in `host` alone, since each function that calls it is costly to prove.
+//! Tests of links that come by a door in memory: the number of links that are served, their answers, and the order in
+//! which the door and the links are called.
+//!
+//! Only `host` calls `serve_door`, since each function that calls it is costly to prove.
 use crate::books::{a_book, a_link, is_answered};
 use crate::telegrams::{ANSWER, CONFIRM, CONNECT, GRANTED, READ, SETUP, joined};
 use crate::watched::{WatchedDoor, WatchedLink};
@@ -14,17 +14,21 @@ use std::sync::Wait;
 use std::thread::Threads;
 use std::time::Clock;
 
+/// A link in memory that counts late calls.
 type Line = WatchedLink<MemoryLink>;
 
+/// A door in memory that counts its calls.
 type Doorway = WatchedDoor<MemoryDoor<Line>>;
 
-/// What comes by a door: how many links, how often each reads, the call of the door that fails, and the most links.
+/// The links of a door: their number, the number of reads of each, the call of the door that fails, and the greatest
+/// number of links that are served.
 type Coming = (usize, usize, Option<usize>, u16);
 
-/// Per row: what comes by a door, the link that is kept at its first request and the one whose second request lets it
-/// go (0 for none), and then how many links are served and whether the door failed, or nothing where no link is served.
+/// Rows: the links of a door, the link that a gate delays at its first request and the link whose second request
+/// releases it (0 for none), and the number of links that are served and whether the door failed. Nothing is left if no
+/// link is served.
 ///
-/// No order of one link behind the other lets both gates of the last two rows go.
+/// No order in which one link is served after the other releases both links of the last two rows.
 const DOORS: &[(Coming, (u32, u32), Option<(usize, bool)>)] = &[
     ((2, 2, Some(0), 2), (0, 0), None),
     ((2, 2, Some(1), 2), (0, 0), Some((1, true))),
@@ -42,14 +46,14 @@ const DOORS: &[(Coming, (u32, u32), Option<(usize, bool)>)] = &[
     ((2, 2, None, 2), (2, 1), Some((2, false))),
 ];
 
-/// What serving a door leaves, and the door behind it.
+/// What is left after the links of a door are served, and the door.
 #[derive(Drop)]
 struct Left {
     hosted: Result<Hosted<Book<Tail>, Line>, NotHosted>,
     door: Doorway,
 }
 
-// Serves the links of a door, at most so many, on a book that takes 2,048 entries.
+/// Serves the links of a door, at most `most`, on a book that has room for 2,048 entries.
 fn host<R: Threads + Wait + Clock + Sync, G: Gate + Sync>(
     rt: &R,
     alloc: Global,
@@ -62,7 +66,7 @@ fn host<R: Threads + Wait + Clock + Sync, G: Gate + Sync>(
     Some(Left { hosted, door })
 }
 
-// What a link sends that reads once, or twice.
+/// The telegrams of a link that reads once or twice.
 fn asks_of(reads: usize) -> &'static [&'static [u8]] {
     if reads == 1 {
         &[CONNECT, SETUP, READ]
@@ -71,7 +75,7 @@ fn asks_of(reads: usize) -> &'static [&'static [u8]] {
     }
 }
 
-// What it is answered.
+/// The answers to these telegrams.
 fn answers_of(reads: usize) -> &'static [&'static [u8]] {
     if reads == 1 {
         &[CONFIRM, GRANTED, ANSWER]
@@ -80,7 +84,7 @@ fn answers_of(reads: usize) -> &'static [&'static [u8]] {
     }
 }
 
-// A door of so many links, each of which reads so often.
+/// A door of links that each read `reads` times.
 fn a_door(alloc: Global, count: usize, reads: usize, fail_at: Option<usize>) -> Option<Doorway> {
     let mut links = Vec::new(alloc);
     for _ in 0..count {
@@ -100,7 +104,7 @@ fn a_door(alloc: Global, count: usize, reads: usize, fail_at: Option<usize>) -> 
     })
 }
 
-// What serving a door leaves. None where a link was kept for too long.
+/// What is left after the links of a door are served. There is nothing if a link was delayed for too long.
 fn served<R: Threads + Wait + Clock + Sync>(
     rt: &R,
     alloc: Global,
@@ -118,13 +122,13 @@ fn served<R: Threads + Wait + Clock + Sync>(
     if gate.gave_up() { None } else { Some(left) }
 }
 
-// The door was told once to listen, and not asked behind its end or its failure.
+/// Reports whether the door was asked once to listen, and never for a link after its end or its failure.
 fn is_called_in_order(door: &Doorway) -> bool {
     door.listens == 1 && door.port == 102 && door.late == 0
 }
 
-// The link has this number, was answered so, and has so many entries. It was shut, and behind that nothing was to move
-// on it.
+/// Reports whether a link has this number, these answers and this number of entries. It was shut, and no octet was
+/// asked of it after that.
 fn is_served(served: &Served<Line>, number: u32, answers: &Octets, entries: u64) -> bool {
     let line = &served.line;
     served.link == number
@@ -133,7 +137,7 @@ fn is_served(served: &Served<Line>, number: u32, answers: &Octets, entries: u64)
         && is_answered(served, &line.link, answers, entries)
 }
 
-// The links have the numbers from 1 on, and each was served so.
+/// Reports whether the links have the numbers from 1 on, and each was served so.
 fn are_served(links: &[Served<Line>], answers: &Octets, entries: u64) -> bool {
     let mut number = 0u32;
     for served in links {
@@ -145,7 +149,7 @@ fn are_served(links: &[Served<Line>], answers: &Octets, entries: u64) -> bool {
     true
 }
 
-// How many entries of the book are of link 1.
+/// The number of entries of link 1.
 fn count_of_first(book: &Book<Tail>) -> u64 {
     let mut count = 0u64;
     for entry in book.journal.as_slice() {
@@ -156,14 +160,15 @@ fn count_of_first(book: &Book<Tail>) -> u64 {
     count
 }
 
-// The book has so many entries of each of so many links. They are counted at the first one.
+/// Reports whether the book has `entries` entries of each of the links. They are counted for link 1 and for all links.
 fn has_all(book: &Book<Tail>, links: usize, entries: u64) -> bool {
     let count = links as u64;
     let all = count.saturating_mul(entries);
     book.journal.len() == all && count_of_first(book) == entries.min(all)
 }
 
-// So many links are left, each with so many entries and these answers, and the door failed or not.
+/// Reports whether this number of links is left, each with this number of entries and these answers, and the door
+/// failed or not.
 fn are_left(
     hosted: &Hosted<Book<Tail>, Line>,
     answers: &Octets,
@@ -175,7 +180,8 @@ fn are_left(
         && are_served(hosted.links.as_slice(), answers, entries)
 }
 
-// A door of links that each read so often leaves so much. None where memory was wanting.
+/// Reports whether a door of links that each read `reads` times leaves what is wanted. The answer is missing if memory
+/// is missing.
 fn leaves(
     alloc: Global,
     left: &Left,
@@ -191,7 +197,7 @@ fn leaves(
     Some(is_so && is_called_in_order(&left.door))
 }
 
-// It goes as a row says.
+/// Reports whether a row holds.
 fn goes<R: Threads + Wait + Clock + Sync>(
     rt: &R,
     alloc: Global,
@@ -202,6 +208,7 @@ fn goes<R: Threads + Wait + Clock + Sync>(
     leaves(alloc, &served(rt, alloc, coming, gates)?, coming.1, wanted)
 }
 
+/// Doors end and fail as the rows say, and their links are served at the same time.
 #[test]
 fn doors_end_and_fail_in_order_and_their_links_are_served_at_once(rt: HostRuntime) {
     let mut row = 0u8;

@@ -1,4 +1,4 @@
-// Outputs and clocks that a test makes fail, under the objects of the machine.
+//! Tests of the objects of the machine over an output and a clock that fail.
 use s7_os::{RealLink, StdOut};
 use s7_outer::{Clock as LinkClock, Link, Out, Sent, Tick};
 use std::alloc::Allocator;
@@ -8,7 +8,7 @@ use std::rt::Clock;
 use std::time::Duration;
 use std::{fs, io};
 
-/// A runtime whose clock stands at a moment, or before 1970 where it has none, and whose standard output is a file.
+/// A runtime whose clock shows a moment, or fails without one, and whose standard output is a file.
 #[derive(Drop)]
 struct Feigned {
     rt: HostRuntime,
@@ -62,7 +62,7 @@ const FULL: &str = "/dev/full";
 /// A file that takes octets.
 const SCRATCH: &str = "s7_machine_output";
 
-// Puts a text, on an output that is this file, so often as there are answers: each put fails or doesn't.
+/// Reports whether puts to an output, which is this file, succeed as the answers say, one after another.
 fn puts(rt: &HostRuntime, output: &'static str, answers: &[bool]) -> bool {
     let mut out = StdOut::new(Feigned {
         rt: *rt,
@@ -77,7 +77,7 @@ fn puts(rt: &HostRuntime, output: &'static str, answers: &[bool]) -> bool {
     true
 }
 
-// The file has this text, and is removed.
+/// Reports whether a file has this text. The file is removed.
 fn is_taken(rt: &HostRuntime, path: &str, wanted: &[u8]) -> bool {
     match fs::read(rt, path) {
         Ok(text) => text.as_slice() == wanted && fs::remove_file(rt, path).is_ok(),
@@ -85,7 +85,7 @@ fn is_taken(rt: &HostRuntime, path: &str, wanted: &[u8]) -> bool {
     }
 }
 
-// A link over the standard streams of a runtime with this moment, whose output is a full device.
+/// A link over the standard streams of a runtime with this moment, whose output is a full device.
 fn a_link(rt: &HostRuntime, moment: Option<Duration>) -> Option<RealLink<Feigned>> {
     let feigned = Feigned {
         rt: *rt,
@@ -95,13 +95,13 @@ fn a_link(rt: &HostRuntime, moment: Option<Duration>) -> Option<RealLink<Feigned
     RealLink::standard(rt.alloc(), feigned).ok()
 }
 
-// What a link to a full device answers to a transmit.
+/// The answer of a link over a full device to a transmit.
 fn transmitted(rt: &HostRuntime) -> Option<Sent> {
     Some(a_link(rt, None)?.transmit(b"abc"))
 }
 
-/// Seconds and nanoseconds since 1970, or none before that, and the moment of a link in milliseconds, or none where
-/// its clock fails.
+/// Seconds and nanoseconds since 1970, or none before 1970, and the moments of a link in milliseconds, or none if its
+/// clock fails.
 const MOMENTS: &[(Option<(u64, u32)>, Option<u64>)] = &[
     (Some((0, 0)), Some(0)),
     (Some((0, 1_999_999)), Some(1)),
@@ -110,12 +110,12 @@ const MOMENTS: &[(Option<(u64, u32)>, Option<u64>)] = &[
     (None, None),
 ];
 
-// So long a time.
+/// A duration.
 fn time_of(seconds: u64, nanos: u32) -> Duration {
     Duration::from_secs(seconds).saturating_add(Duration::from_nanos(u64::from(nanos)))
 }
 
-// The moment of a link whose clock tells so many seconds and nanoseconds, or a moment before 1970.
+/// The moment of a link whose clock shows these seconds and nanoseconds, or a moment before 1970.
 fn moment_of(rt: &HostRuntime, since: &Option<(u64, u32)>) -> Option<Tick> {
     let since = match since {
         Some((seconds, nanos)) => Some(time_of(*seconds, *nanos)),
@@ -124,7 +124,7 @@ fn moment_of(rt: &HostRuntime, since: &Option<(u64, u32)>) -> Option<Tick> {
     Some(a_link(rt, since)?.now())
 }
 
-// The link's clock tells this moment, or fails where there is none.
+/// Reports whether a link's clock shows this moment, or fails if there is none.
 fn has_moment(rt: &HostRuntime, since: &Option<(u64, u32)>, wanted: &Option<u64>) -> bool {
     match (moment_of(rt, since), wanted) {
         (Some(Tick::At(moment)), Some(wanted)) => moment == *wanted,
@@ -133,8 +133,10 @@ fn has_moment(rt: &HostRuntime, since: &Option<(u64, u32)>, wanted: &Option<u64>
     }
 }
 
-// The standard output of the process cannot be made to fail in a test. `tools/full-output` runs the programs over it.
-// The machine's clock cannot be set in a test. The clock of a runtime gives an error before 1970.
+/// Outputs and links over a full device fail, and so do clocks before 1970.
+///
+/// A test can't make the standard output of its process fail. `tools/full-output` runs the programs over a full device.
+/// Nor can a test set the clock of the machine. The clock of a runtime fails before 1970.
 #[test]
 fn outputs_and_links_to_a_full_device_and_clocks_before_1970_fail(rt: HostRuntime) {
     assert!(rt; puts(&rt, FULL, &[false, false]));

@@ -1,21 +1,21 @@
-// The machine's files.
+//! Tests of the machine's files.
 use s7_os::StdFiles;
 use s7_outer::{FILE_LIMIT, FileFault, Files};
 use std::fs;
 
 /// What is done at a path.
 enum Act {
-    /// A text of so many octets is written, and read again.
+    /// A text of this length is written and read again.
     IsReadAgain(usize),
-    /// A file of so many octets 00 is made, read with this answer and with so many of its octets, and removed.
+    /// A file of octets 00 of this length is made, read with this answer and this number of octets, and removed.
     IsLong(u64, Result<(), FileFault>, usize),
-    /// A read fails, and gives nothing.
+    /// A read fails and gives nothing.
     IsUnread,
     /// A write fails.
     IsUnwritten,
 }
 
-/// Each text takes the place of the one before. The last of the acts that fail is on a device that takes no octet.
+/// Each text replaces the one before. The last act that fails is on a device that takes no octet.
 const ACTS: &[(&str, Act)] = &[
     ("s7_machine_texts", Act::IsReadAgain(22)),
     ("s7_machine_texts", Act::IsReadAgain(5_000)),
@@ -37,19 +37,19 @@ const ACTS: &[(&str, Act)] = &[
     ),
 ];
 
-// What a write answers.
+/// The answer of a write.
 fn written(rt: &HostRuntime, path: &str, octets: &[u8]) -> Result<(), FileFault> {
     StdFiles::new(*rt).write(rt.alloc(), path, octets)
 }
 
-// What a read answers, and the octets that it gives.
+/// The answer of a read, and its octets.
 fn read(rt: &HostRuntime, path: &str) -> (Result<(), FileFault>, Vec<u8>) {
     let mut text = Vec::new(rt.alloc());
     let answer = StdFiles::new(*rt).read(rt.alloc(), path, &mut text);
     (answer, text)
 }
 
-// A text of so many octets that is written under a path is read again.
+/// Reports whether a text of this length is read again after it was written under a path.
 fn is_read_again(rt: &HostRuntime, path: &str, length: usize) -> Option<bool> {
     let octet = (length % 251) as u8;
     let text = vec![in rt.alloc(); octet; length].ok()?;
@@ -58,7 +58,7 @@ fn is_read_again(rt: &HostRuntime, path: &str, length: usize) -> Option<bool> {
     Some(has_written == Ok(()) && answer == Ok(()) && came.as_slice() == text.as_slice())
 }
 
-// Under a path lies a file of so many octets 00 alone.
+/// Makes a file of octets 00 of this length. Reports whether it is made.
 fn makes(rt: &HostRuntime, path: &str, length: u64) -> bool {
     match fs::create(rt, path) {
         Ok(file) => file.set_len(length).is_ok(),
@@ -66,18 +66,18 @@ fn makes(rt: &HostRuntime, path: &str, length: u64) -> bool {
     }
 }
 
-// The file is removed.
+/// Reports whether a file is removed.
 fn is_removed(rt: &HostRuntime, path: &str) -> bool {
     fs::remove_file(rt, path).is_ok()
 }
 
-// A read answers so, and gives so many octets.
+/// Reports whether a read has this answer, and gives this number of octets.
 fn is_read(rt: &HostRuntime, path: &str, wanted: &Result<(), FileFault>, count: usize) -> bool {
     let (answer, text) = read(rt, path);
     answer == *wanted && text.len() == count
 }
 
-// It goes as the act says. None where memory was wanting.
+/// Reports whether an act has its outcome. The answer is missing if memory is missing.
 fn goes(rt: &HostRuntime, path: &str, act: &Act) -> Option<bool> {
     match act {
         Act::IsReadAgain(length) => is_read_again(rt, path, *length),
@@ -89,6 +89,7 @@ fn goes(rt: &HostRuntime, path: &str, act: &Act) -> Option<bool> {
     }
 }
 
+/// Texts replace others, and files that are too long, or not there, are not read.
 #[test]
 fn texts_take_the_place_of_others_and_files_have_an_end(rt: HostRuntime) {
     for (path, act) in ACTS {

@@ -1,4 +1,4 @@
-// Links that are served in one hall, one after another.
+//! Tests of links that are served in one hall, one after another.
 ghost use Rattle.std.specs.Prelude.{◌≡◌, [], ◌∷◌, Some, IfOk};
 ghost use Rattle.s7_turn.specs.Histories.{calls};
 ghost use Rattle.s7_turn.specs.Seats.{IsOf, caller, callers, next, seen};
@@ -16,7 +16,7 @@ use std::alloc::Global;
 use std::sync::Wait;
 use std::time::Clock;
 
-// A hall with a book that takes two entries, and its first seat.
+/// A hall with a book that has room for two entries, and its first seat.
 fn a_hall(alloc: Global) -> Result<(Hall<Book<Tail>>, Seat<Book<Tail>>), Memory>
     ensures hall { IfOk result (λ r. IsOf r.0 r.1) }
     ensures number { IfOk result (λ r. next r.1 ≡ Some 1) }
@@ -28,7 +28,7 @@ fn a_hall(alloc: Global) -> Result<(Hall<Book<Tail>>, Seat<Book<Tail>>), Memory>
     }
 }
 
-// Serves a link in the name of a new seat.
+/// Serves a link from a new seat.
 fn serve<R: Wait + Clock>(
     rt: &R,
     alloc: Global,
@@ -44,7 +44,7 @@ fn serve<R: Wait + Clock>(
     serve_link(rt, alloc, hall, seat, &OpenGate, None, line)
 }
 
-// Two links are served, the seats of which were split off before.
+/// Serves two links. Their seats are split off before.
 fn both_served<R: Wait + Clock>(
     rt: &R,
     alloc: Global,
@@ -66,7 +66,7 @@ fn both_served<R: Wait + Clock>(
     (all, (written, read))
 }
 
-/// What two links leave that are served one after another, and the book behind them.
+/// Two links after they were served one after another, and the book after both.
 #[derive(Drop)]
 struct Left {
     written: Served<MemoryLink>,
@@ -74,7 +74,7 @@ struct Left {
     book: Book<Tail>,
 }
 
-// Serves two links one after another, and closes the hall behind them.
+/// Serves two links one after another, and closes the hall after both.
 fn served<R: Wait + Clock>(rt: &R, alloc: Global, lines: (MemoryLink, MemoryLink)) -> Option<Left> {
     let (hall, first) = a_hall(alloc).ok()?;
     let (all, (written, read)) = both_served(rt, alloc, &hall, first, lines);
@@ -86,7 +86,7 @@ fn served<R: Wait + Clock>(rt: &R, alloc: Global, lines: (MemoryLink, MemoryLink
     })
 }
 
-// The link has this number, was answered so, and made one entry, of the other number.
+/// Reports whether a link has this number and these answers, and made one entry, which has the other number.
 fn is_so(
     alloc: Global,
     served: &Served<MemoryLink>,
@@ -99,7 +99,7 @@ fn is_so(
     Some(is_numbered && is_answered(served, &served.line, &answers, 1))
 }
 
-// The book has an entry of link 1 and then one of link 2.
+/// Reports whether the book has an entry of link 1, and one of link 2 after it.
 fn has_both(book: &Book<Tail>) -> bool {
     match book.journal.as_slice() {
         [one, two] => one.link == 1 && two.link == 2 && Keeper::entries(book) == 2,
@@ -107,13 +107,13 @@ fn has_both(book: &Book<Tail>) -> bool {
     }
 }
 
-// A writer and a reader.
+/// The links of a writer and of a reader.
 fn lines(alloc: Global) -> Option<(MemoryLink, MemoryLink)> {
     let writer = a_link(alloc, &[CONNECT, SETUP, WRITE])?;
     Some((writer, a_link(alloc, &[CONNECT, SETUP, READ, READ])?))
 }
 
-// Both were answered, and the book has what they entered.
+/// Reports whether both links were answered, and the book has their entries.
 fn are_answered(alloc: Global, left: &Left) -> Option<bool> {
     let read = &[CONFIRM, GRANTED, ANSWER_AFTER_WRITE, NO_ROOM];
     Some(
@@ -123,11 +123,12 @@ fn are_answered(alloc: Global, left: &Left) -> Option<bool> {
     )
 }
 
-// A writer and then a reader are answered.
+/// Reports whether a writer and a reader after it are answered.
 fn answer_one_another<R: Wait + Clock>(rt: &R, alloc: Global) -> Option<bool> {
     are_answered(alloc, &served(rt, alloc, lines(alloc)?)?)
 }
 
+/// A link is answered by what the links before it left.
 #[test]
 fn links_are_answered_by_what_others_left(rt: HostRuntime) {
     assert!(rt; answer_one_another(&rt, rt.alloc()) == Some(true));

@@ -1,6 +1,6 @@
-// Links, doors and dials over TCP on this machine.
-//
-// Each of their calls is made here alone, since each function that makes one carries all that the call ensures.
+//! Links, doors and dials over TCP on this machine.
+//!
+//! Each of their calls is made in one function here, since each function that makes one is costly to prove.
 use s7_os::{RealLink, TcpDial, TcpDoor};
 use s7_outer::{Arrival, Clock, Dial, Dialled, Door, Got, Link, Octets, Sent, Tick};
 use std::alloc::Global;
@@ -11,10 +11,10 @@ pub(crate) type Line = RealLink<HostRuntime>;
 /// A door over TCP.
 pub(crate) type Doorway = TcpDoor<HostRuntime>;
 
-/// The most octets of one receive.
+/// The greatest number of octets of one receive.
 const MOST: usize = 4_096;
 
-/// Transmits once. Nothing is refused as a link refuses what it has no room for.
+/// Transmits once. No octets are answered as if the link had no room.
 pub(crate) fn transmit(line: &mut Line, octets: &[u8]) -> Sent {
     if octets.is_empty() {
         return Sent::NotYet;
@@ -22,7 +22,7 @@ pub(crate) fn transmit(line: &mut Line, octets: &[u8]) -> Sent {
     line.transmit(octets)
 }
 
-/// Receives once into so much room, from 1 to 4,096 octets, and appends what came.
+/// Receives once, at most `room` octets, from 1 to 4,096, and appends them.
 pub(crate) fn receive(line: &mut Line, room: usize, came: &mut Vec<u8>) -> Got {
     let mut into = [0u8; MOST];
     let got = received(line, &mut into, room);
@@ -38,7 +38,7 @@ pub(crate) fn receive(line: &mut Line, room: usize, came: &mut Vec<u8>) -> Got {
     }
 }
 
-// Receives once into the front of the room.
+/// Receives once into the first `room` octets.
 fn received(line: &mut Line, into: &mut [u8], room: usize) -> Got {
     if room == 0 || room > into.len() {
         return Got::Failed;
@@ -59,12 +59,12 @@ pub(crate) fn moment(line: &mut Line) -> Option<u64> {
     }
 }
 
-/// Listens on the port.
+/// Reports whether the door listens on the port.
 fn listens(door: &mut Doorway, port: u16) -> bool {
     door.listen(port).is_ok()
 }
 
-/// Has a door listen on one of forty ports from this one on.
+/// Makes a door listen on one of forty ports from this one on.
 pub(crate) fn listen_from(door: &mut Doorway, first: u16) -> Option<u16> {
     for port in first..first.saturating_add(40) {
         if listens(door, port) {
@@ -74,7 +74,7 @@ pub(crate) fn listen_from(door: &mut Doorway, first: u16) -> Option<u16> {
     None
 }
 
-/// What comes next by the door.
+/// The next arrival at the door.
 pub(crate) fn next(door: &mut Doorway) -> Arrival<Line> {
     door.next()
 }
@@ -93,12 +93,12 @@ pub(crate) fn call_here(rt: &HostRuntime, port: u16) -> Option<Line> {
     call(&mut dial, "127.0.0.1", port)
 }
 
-/// The link takes all of these octets at once.
+/// Reports whether the link takes all of these octets at once.
 pub(crate) fn takes(line: &mut Line, octets: &[u8]) -> bool {
     transmit(line, octets) == Sent::Bytes(octets.len())
 }
 
-/// What comes up to the end.
+/// The octets that come up to the end.
 pub(crate) fn rest_of(alloc: Global, line: &mut Line) -> Option<Octets> {
     let mut came = Vec::new(alloc);
     for _ in 0..1_000u32 {
@@ -111,7 +111,7 @@ pub(crate) fn rest_of(alloc: Global, line: &mut Line) -> Option<Octets> {
     None
 }
 
-// All octets are there that the telegram's head says. Those of these tests are short.
+/// Reports whether all octets of a telegram are there. The telegrams of these tests have fewer than 256 octets.
 fn is_whole(came: &[u8]) -> bool {
     match came.get(3) {
         Some(len) => usize::from(*len) == came.len(),
@@ -119,7 +119,7 @@ fn is_whole(came: &[u8]) -> bool {
     }
 }
 
-// The next telegram, whole. A link waits 100 milliseconds at most for a piece.
+/// The next telegram, whole. A receive waits 100 milliseconds at most.
 fn take(alloc: Global, line: &mut Line) -> Option<Octets> {
     let mut came = Vec::new(alloc);
     for _ in 0..200u32 {
@@ -134,7 +134,7 @@ fn take(alloc: Global, line: &mut Line) -> Option<Octets> {
     None
 }
 
-/// Sends a telegram, and gives the one that answers. Nothing comes unasked, so it is the next.
+/// Sends a telegram. The result is its answer, which is the next telegram, since nothing comes unasked.
 pub(crate) fn ask(alloc: Global, line: &mut Line, telegram: &[u8]) -> Option<Octets> {
     if takes(line, telegram) {
         take(alloc, line)

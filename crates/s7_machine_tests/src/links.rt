@@ -1,4 +1,4 @@
-// Connections over TCP, and the clock of links.
+//! Tests of connections over TCP, and of the clock of links.
 use crate::line::{
     Doorway, Line, call, call_here, listen_from, moment, next, receive, shut, transmit,
 };
@@ -11,13 +11,14 @@ use std::thread;
 use std::thread::{Threads, join};
 use std::time::Duration;
 
-// The first port that the doors try.
+/// The first port that the doors try.
 const FIRST_PORT: u16 = 47_102;
 
 /// 2024-01-01, in milliseconds.
 const YEAR_2024: u64 = 1_704_067_200_000;
 
-// A standard link has the time. The standard input of a test has ended.
+/// Reports whether a link over the standard streams shows the time, and has ended. The standard input of a test has
+/// ended.
 fn has_the_time_and_ends(rt: &HostRuntime) -> Option<bool> {
     let alloc = rt.alloc();
     let mut line = RealLink::standard(alloc, *rt).ok()?;
@@ -26,21 +27,21 @@ fn has_the_time_and_ends(rt: &HostRuntime) -> Option<bool> {
     Some(is_after && has_ended && answers(alloc, &mut line, Got::End))
 }
 
-/// The ends of a connection, each as long as it is held.
+/// The ends of a connection, each until it is dropped.
 #[derive(Drop)]
 struct Ends {
     client: Option<Line>,
     server: Option<Line>,
 }
 
-// A door that listens, and its port.
+/// A door that listens, and its port.
 fn a_door(rt: &HostRuntime) -> Option<(Doorway, u16)> {
     let mut door = TcpDoor::new(*rt);
     let port = listen_from(&mut door, FIRST_PORT)?;
     Some((door, port))
 }
 
-// The next link of a door.
+/// The next link of a door.
 fn arrived(door: &mut Doorway) -> Option<Line> {
     match next(door) {
         Arrival::Link(line) => Some(line),
@@ -48,7 +49,7 @@ fn arrived(door: &mut Doorway) -> Option<Line> {
     }
 }
 
-// The ends of a connection of a dial and a door, and the door and its port.
+/// The ends of a connection between a dial and a door, the door, and its port.
 fn connected(rt: &HostRuntime) -> Option<(Ends, Doorway, u16)> {
     let (mut door, port) = a_door(rt)?;
     let client = call_here(rt, port);
@@ -56,17 +57,17 @@ fn connected(rt: &HostRuntime) -> Option<(Ends, Doorway, u16)> {
     Some((Ends { client, server }, door, port))
 }
 
-// A door that never listened gives nothing.
+/// Reports whether a door that never listened gives no link.
 fn is_silent(rt: &HostRuntime) -> bool {
     matches!(next(&mut TcpDoor::new(*rt)), Arrival::Failed)
 }
 
-// Nobody answers at the port of this host.
+/// Reports whether nobody answers at the port of a host.
 fn is_unanswered(rt: &HostRuntime, host: &str, port: u16) -> bool {
     call(&mut TcpDial::new(*rt), host, port).is_none()
 }
 
-// Nobody answers at the door's port on another host, nor on this one once the door is dropped.
+/// Reports whether nobody answers at the door's port on another host, nor on this one once the door is dropped.
 fn are_unanswered(rt: &HostRuntime) -> Option<bool> {
     let (ends, door, port) = connected(rt)?;
     let is_so = ends.server.is_some() && is_unanswered(rt, "127.0.0.2", port);
@@ -74,6 +75,7 @@ fn are_unanswered(rt: &HostRuntime) -> Option<bool> {
     Some(is_so && is_unanswered(rt, "127.0.0.1", port))
 }
 
+/// A link shows the time. A door that never listened fails, and so does a dial that nobody answers.
 #[test]
 fn links_have_the_time_and_doors_and_dials_fail(rt: HostRuntime) {
     assert!(rt; has_the_time_and_ends(&rt) == Some(true));
@@ -87,33 +89,33 @@ enum Side {
     Server,
 }
 
-/// What a side does, and what comes of it.
+/// What a side does, and the outcome.
 enum Act {
-    /// It transmits these octets by one call, which answers so.
+    /// The side transmits these octets by one call, which has this answer.
     Transmits(&'static [u8], Sent),
-    /// It receives into so much room by one call, and these octets come.
+    /// The side receives at most this number of octets by one call, and these come.
     Receives(usize, &'static [u8]),
-    /// Nothing comes, and the call waits for 50 milliseconds at least.
+    /// Nothing comes, and the call waits for at least 50 milliseconds.
     Waits,
     /// The end comes.
     Ends,
-    /// A receive fails, once it waits no more.
+    /// A receive fails, once it no longer waits.
     FailsToReceive,
     /// A transmit fails, once the system knows that nobody reads.
     FailsToTransmit,
-    /// It shuts its link.
+    /// The side shuts its link.
     Shuts,
-    /// It drops its link.
+    /// The side drops its link.
     Leaves,
-    /// It transmits so many octets of the text, and each transmit takes all that is left.
+    /// The side transmits this number of octets of the text, and each transmit takes all octets that are left.
     TransmitsText(usize),
-    /// So many octets of the text come after some time, and then the end.
+    /// This number of octets of the text comes after some time, and the end after them.
     ReceivesText(usize),
-    /// An inbox is refilled after some time, once for each of these counts, by so many octets of the text.
+    /// An inbox is refilled after some time, once for each of these numbers, by that many octets of the text.
     Refills(&'static [usize]),
 }
 
-/// Per row: what it shows, and what the sides do, one behind the other.
+/// Rows: what a connection shows, and what the sides do, one after another.
 const CONNECTIONS: &[(&str, &[(Side, Act)])] = &[
     (
         "octets go both ways, and a receive waits for them",
@@ -169,23 +171,23 @@ const CONNECTIONS: &[(&str, &[(Side, Act)])] = &[
     ),
 ];
 
-// These octets come by one call.
+/// Reports whether these octets come by one call.
 fn comes(alloc: Global, line: &mut Line, room: usize, octets: &[u8]) -> bool {
     let mut came = Vec::new(alloc);
     receive(line, room, &mut came) == Got::Bytes(octets.len()) && came.as_slice() == octets
 }
 
-// A receive answers so.
+/// Reports whether a receive has this answer.
 fn answers(alloc: Global, line: &mut Line, wanted: Got) -> bool {
     receive(line, 8, &mut Vec::new(alloc)) == wanted
 }
 
-// Between these moments 50 milliseconds have passed at least.
+/// Reports whether at least 50 milliseconds passed between two moments.
 fn have_passed(before: u64, after: u64) -> bool {
     after.saturating_sub(before) >= 50
 }
 
-// Nothing comes for 50 milliseconds.
+/// Reports whether nothing comes for 50 milliseconds.
 fn waits(alloc: Global, line: &mut Line) -> Option<bool> {
     let before = moment(line)?;
     let is_so = answers(alloc, line, Got::NotYet);
@@ -193,7 +195,7 @@ fn waits(alloc: Global, line: &mut Line) -> Option<bool> {
     Some(is_so && have_passed(before, after))
 }
 
-// A receive fails once it waits no more.
+/// Reports whether a receive fails once it no longer waits.
 fn fails_to_receive(alloc: Global, line: &mut Line) -> bool {
     let mut came = Vec::new(alloc);
     for _ in 0..20 {
@@ -205,7 +207,7 @@ fn fails_to_receive(alloc: Global, line: &mut Line) -> bool {
     false
 }
 
-// Some of the first transmits may still go, before the system knows that nobody reads.
+/// Reports whether a transmit fails. Some of the first ones may succeed, before the system knows that nobody reads.
 fn fails_to_transmit(line: &mut Line) -> bool {
     for _ in 0..20 {
         match transmit(line, b"x") {
@@ -217,17 +219,18 @@ fn fails_to_transmit(line: &mut Line) -> bool {
     false
 }
 
-// More octets than the buffers of both sockets have room for.
+/// More octets than the buffers of both sockets have room for.
 const LONG: usize = 16_000_000;
 
-// More octets than a peer that takes none has room for, and not more than both have.
+/// More octets than a peer that takes none has room for, and not more than both have.
 const HALF_TAKEN: usize = 1_000_000;
 
-// What stands at a place of the text.
+/// The octet at an offset of the text.
 fn octet_at(place: usize) -> u8 {
     (place % 251) as u8
 }
 
+/// The first octets of the text.
 fn text_of(alloc: Global, length: usize) -> Option<Vec<u8>> {
     let mut text = Vec::with_capacity(alloc, length).ok()?;
     for place in 0..length {
@@ -236,6 +239,7 @@ fn text_of(alloc: Global, length: usize) -> Option<Vec<u8>> {
     Some(text)
 }
 
+/// Reports whether these are the octets of the text from an offset on.
 fn stands_at(octets: &[u8], place: usize) -> bool {
     for (k, octet) in octets.iter().enumerate() {
         if *octet != octet_at(place.wrapping_add(k)) {
@@ -245,7 +249,7 @@ fn stands_at(octets: &[u8], place: usize) -> bool {
     true
 }
 
-// Transmits the whole text, and counts the transmits that took less than was left.
+/// Transmits the whole text, and counts the transmits that took fewer octets than were left.
 fn transmit_all(line: &mut Line, text: &[u8]) -> Option<u64> {
     let mut rest = text;
     let mut short = 0u64;
@@ -263,12 +267,12 @@ fn transmit_all(line: &mut Line, text: &[u8]) -> Option<u64> {
     None
 }
 
-// Transmits so many octets of the text, and counts the transmits that took less than was left.
+/// Transmits the first octets of the text, and counts the transmits that took fewer octets than were left.
 fn transmit_text(alloc: Global, line: &mut Line, count: usize) -> Option<u64> {
     transmit_all(line, text_of(alloc, count)?.as_slice())
 }
 
-// How many octets come up to the end. None where they aren't those of the text.
+/// The number of octets that come up to the end. There is none if they aren't those of the text.
 fn receive_all(alloc: Global, line: &mut Line) -> Option<usize> {
     let mut came = Vec::new(alloc);
     let mut place = 0usize;
@@ -287,7 +291,8 @@ fn receive_all(alloc: Global, line: &mut Line) -> Option<usize> {
     None
 }
 
-// An inbox that is empty gets so many octets of the link, which are those of the text from a place on.
+/// Reports whether an empty inbox gets this number of octets from the link, which are those of the text from an offset
+/// on.
 fn is_refilled(inbox: &mut Inbox, line: &mut Line, place: usize, count: usize) -> bool {
     if !inbox.is_empty() || inbox.refill(line, PIECE) != Got::Bytes(count) {
         return false;
@@ -300,7 +305,7 @@ fn is_refilled(inbox: &mut Inbox, line: &mut Line, place: usize, count: usize) -
     is_so
 }
 
-// An inbox gets so many octets of the text by one call after another.
+/// Reports whether an inbox gets these numbers of octets of the text, by one call after another.
 fn refills(line: &mut Line, counts: &[usize]) -> bool {
     let mut inbox = Inbox::new();
     let mut place = 0usize;
@@ -313,12 +318,12 @@ fn refills(line: &mut Line, counts: &[usize]) -> bool {
     true
 }
 
-// Lets all come that is on its way.
+/// Waits until all octets have come that are on their way.
 fn rest(rt: &HostRuntime) {
     drop(thread::sleep(rt, Duration::from_millis(200)));
 }
 
-// It goes as the act says. None where memory was wanting, or the clock failed.
+/// Reports whether an act has its outcome. The answer is missing if memory is missing, or the clock failed.
 fn goes(rt: &HostRuntime, line: &mut Line, act: &Act) -> Option<bool> {
     let alloc = rt.alloc();
     match act {
@@ -345,7 +350,7 @@ fn goes(rt: &HostRuntime, line: &mut Line, act: &Act) -> Option<bool> {
     }
 }
 
-// It goes as the act says, at a side that is still there.
+/// Reports whether an act has its outcome, at a side that isn't dropped yet.
 fn goes_at(rt: &HostRuntime, end: &mut Option<Line>, act: &Act) -> bool {
     if matches!(act, Act::Leaves) {
         return end.take().is_some();
@@ -356,7 +361,7 @@ fn goes_at(rt: &HostRuntime, end: &mut Option<Line>, act: &Act) -> bool {
     }
 }
 
-// How many of the acts go as they say, one behind the other.
+/// The number of acts that have their outcomes, one after another.
 fn count_of(rt: &HostRuntime, mut ends: Ends, acts: &[(Side, Act)]) -> usize {
     let mut count = 0usize;
     for (side, act) in acts {
@@ -372,12 +377,13 @@ fn count_of(rt: &HostRuntime, mut ends: Ends, acts: &[(Side, Act)]) -> usize {
     count
 }
 
-// How many of the acts go as they say on a new connection.
+/// The number of acts that have their outcomes on a new connection.
 fn count_on_new(rt: &HostRuntime, acts: &[(Side, Act)]) -> Option<usize> {
     let (ends, _door, _port) = connected(rt)?;
     Some(count_of(rt, ends, acts))
 }
 
+/// Connections give the octets that were sent, and end or fail as the rows say.
 #[test]
 fn connections_give_what_was_sent_and_end_or_fail(rt: HostRuntime) {
     for (shown, acts) in CONNECTIONS {
@@ -386,7 +392,7 @@ fn connections_give_what_was_sent_and_end_or_fail(rt: HostRuntime) {
     }
 }
 
-// A link whose transmits wait for 10 milliseconds.
+/// A link whose transmits wait for 10 milliseconds.
 fn a_hasty_line(rt: &HostRuntime, port: u16) -> Option<Line> {
     let stream = TcpStream::connect(rt, (Ipv4Addr::LOCALHOST, port)).ok()?;
     stream
@@ -398,13 +404,13 @@ fn a_hasty_line(rt: &HostRuntime, port: u16) -> Option<Line> {
 /// What a writer and a reader of the text do.
 #[derive(Clone, Copy)]
 enum Reading {
-    /// The transmits wait for 10 milliseconds. The reader takes all, after some time.
+    /// The transmits wait for 10 milliseconds. The reader receives all octets, after some time.
     Slow,
-    /// The reader takes 8 octets and closes while more are on their way.
+    /// The reader receives 8 octets and closes while more are on their way.
     Closed,
 }
 
-// How many transmits of a new link took less than was left, where the whole text went.
+/// The number of transmits of a new link that took fewer octets than were left, if the whole text was taken.
 fn written(rt: HostRuntime, port: u16, reading: Reading) -> Option<u64> {
     let mut line = match reading {
         Reading::Slow => a_hasty_line(&rt, port)?,
@@ -413,7 +419,7 @@ fn written(rt: HostRuntime, port: u16, reading: Reading) -> Option<u64> {
     transmit_text(rt.alloc(), &mut line, LONG)
 }
 
-// How many octets of the text come on the next link of a door.
+/// The number of octets of the text that come on the next link of a door.
 fn read(rt: HostRuntime, mut door: Doorway, reading: Reading) -> Option<usize> {
     let mut line = arrived(&mut door)?;
     match reading {
@@ -428,7 +434,7 @@ fn read(rt: HostRuntime, mut door: Doorway, reading: Reading) -> Option<usize> {
     }
 }
 
-// What a writer and a reader have beside one another.
+/// What a writer and a reader count that run at the same time.
 fn at_once<R: Threads>(
     rt: &R,
     host: HostRuntime,
@@ -442,6 +448,7 @@ fn at_once<R: Threads>(
     ))
 }
 
+/// A slow reader loses no octet, and a transmit to a closed stream fails.
 #[test]
 fn slow_readers_lose_nothing_and_closed_streams_fail(rt: HostRuntime) {
     let slow = at_once(&rt, rt, Reading::Slow);

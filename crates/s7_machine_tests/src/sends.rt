@@ -1,4 +1,4 @@
-// Objects of the outside that move between threads.
+//! Tests of outside objects that move between threads.
 use crate::line::{moment, next};
 use s7_memory::{FailingLink, HoldGate, MemoryDoor, MemoryLink};
 use s7_os::{RealLink, TcpDoor};
@@ -7,25 +7,26 @@ use std::alloc::Global;
 use std::sync::Wait;
 use std::thread::{Threads, join};
 
-// The value after a thread had it.
+/// The value after a thread had it.
 fn moved<R: Threads, T: Send + Drop>(rt: &R, value: T) -> T {
     let (value, ()) = join(rt, move || value, || ());
     value
 }
 
-// A link in memory, and one that fails, under a door.
+/// A link that fails, over a link in memory.
 fn a_link<R: Threads>(rt: &R, alloc: Global) -> Option<FailingLink<MemoryLink>> {
     let link = MemoryLink::new(alloc, Octets::copy_of(alloc, b"a").ok()?, 1, 1, 7).ok()?;
     Some(moved(rt, FailingLink::new(moved(rt, link), Vec::new(alloc))))
 }
 
+/// A door in memory with such a link.
 fn a_door<R: Threads>(rt: &R, alloc: Global) -> Option<MemoryDoor<FailingLink<MemoryLink>>> {
     let mut links = Vec::new(alloc);
     links.push(a_link(rt, alloc)?).ok()?;
     Some(moved(rt, MemoryDoor::new(links, None)))
 }
 
-// What the clock of the door's link shows.
+/// The moment of the door's link.
 fn shown<R: Threads>(rt: &R, alloc: Global) -> Option<Tick> {
     match a_door(rt, alloc)?.next() {
         Arrival::Link(mut link) => Some(link.now()),
@@ -33,7 +34,7 @@ fn shown<R: Threads>(rt: &R, alloc: Global) -> Option<Tick> {
     }
 }
 
-// The clock of a link over the machine shows a moment.
+/// Reports whether the clock of a link over the machine shows a moment.
 fn has_moment<R: Threads>(rt: &R, host: &HostRuntime) -> bool {
     match RealLink::standard(host.alloc(), *host) {
         Ok(link) => moment(&mut moved(rt, link)).is_some(),
@@ -41,12 +42,12 @@ fn has_moment<R: Threads>(rt: &R, host: &HostRuntime) -> bool {
     }
 }
 
-// A door over TCP that doesn't listen fails.
+/// Reports whether a door over TCP that doesn't listen fails.
 fn fails<R: Threads>(rt: &R, host: &HostRuntime) -> bool {
     matches!(next(&mut moved(rt, TcpDoor::new(*host))), Arrival::Failed)
 }
 
-// A gate that keeps a link gives up.
+/// Reports whether a gate that delays a link gives up.
 fn gives_up<R: Threads + Wait>(rt: &R) -> bool {
     moved(rt, OpenGate).pass(rt, 1, 0);
     let gate = moved(rt, HoldGate::new(1, 2, 3));
@@ -54,6 +55,7 @@ fn gives_up<R: Threads + Wait>(rt: &R) -> bool {
     gate.gave_up()
 }
 
+/// Outside objects work after they moved between threads.
 #[test]
 fn objects_move_between_threads(rt: HostRuntime) {
     assert!(rt; shown(&rt, rt.alloc()) == Some(Tick::At(7)));

@@ -1,4 +1,5 @@
-// What a server answers, leaves and reports that is called as the program calls it, on a port of this machine.
+//! Tests of a server that is called as the program calls it, on a port of this machine: its answers, its report, its
+//! book and its observer.
 use crate::called::{AreaFile, Call, Left, called, is_whole};
 use crate::callers::Callers;
 use crate::coming::are_answered;
@@ -15,11 +16,13 @@ use std::sync::Wait;
 use std::thread::Threads;
 use std::time::Clock;
 
-/// The words of a server of one link and of two, and of one with a journal of one entry.
+/// The words of a server of one link.
 const ONE: &[&str] = &["serve", "DB1=11223344", "--port", "26102", "--links", "1"];
 
+/// The words of a server of two links.
 const TWO: &[&str] = &["serve", "DB1=11223344", "--port", "26102", "--links", "2"];
 
+/// The words of a server of one link with a journal of one entry.
 const ONE_SHORT: &[&str] = &[
     "serve",
     "DB1=11223344",
@@ -43,7 +46,7 @@ const TWO_SHORT: &[&str] = &[
     "4",
 ];
 
-/// The words of a server of 200 links, with room for all entries and for some.
+/// The words of a server of 200 links, with room for all entries.
 const ROOM_FOR_ALL: &[&str] = &[
     "serve",
     "DB1=11223344",
@@ -55,6 +58,7 @@ const ROOM_FOR_ALL: &[&str] = &[
     "400",
 ];
 
+/// The words of a server of 200 links, with room for some entries.
 const ROOM_FOR_SOME: &[&str] = &[
     "serve",
     "DB1=11223344",
@@ -78,31 +82,32 @@ const EIGHT: &[&str] = &[
     "1024",
 ];
 
-/// A server on the standard input, which has ended in a test.
+/// The words of a server on the standard input, which has ended in a test.
 const PIPE: &[&str] = &["pipe", "a.txt"];
 
-/// What comes of a call.
+/// What is left after a call.
 enum Wanted {
-    /// The server ends with this status and this report, and this comes to the one caller, on one link after another.
-    /// No link is kept for too long.
+    /// The server ends with this status and this report, and these telegrams come to the one caller, on one link after
+    /// another. No link is delayed for too long.
     Reports(u8, &'static str, &'static [&'static [&'static [u8]]]),
-    /// The observer is told of so many events, and this is the newest and only one that it has.
+    /// The observer counts this number of events, and keeps this one, the newest.
     Tells(u64, Option<Event>),
-    /// The first of two links ends so and is told, before which nothing comes, while the second one is still served.
+    /// The first of two links ends with this outcome, and its caller sees the end without any octet before it. The
+    /// second link is still served after that.
     Ends(Outcome),
-    /// So many reads are answered with the data, and so many are refused.
+    /// These numbers of reads are answered with the data and refused.
     Reads(usize, usize),
-    /// The clients are shown what the entries before each read left.
+    /// Each read of a client shows what the entries before it left.
     Shares,
 }
 
-/// A call, and what comes of it.
+/// A call, and what is left after it.
 struct Row {
     call: Call,
     wanted: Wanted,
 }
 
-/// The events of the one read and of the write behind it.
+/// The event of the read.
 const READ_EVENT: Event = Event {
     number: 0,
     link: 1,
@@ -110,6 +115,7 @@ const READ_EVENT: Event = Event {
     error: 0,
 };
 
+/// The event of the write after it.
 const WRITE_EVENT: Event = Event {
     number: 1,
     link: 1,
@@ -117,7 +123,7 @@ const WRITE_EVENT: Event = Event {
     error: 0,
 };
 
-/// No order of one link behind the other lets both gates of the second row and the third go.
+/// The calls. No order in which one link is served after the other releases both links of the second and the third row.
 const ROWS: &[Row] = &[
     Row {
         call: Call {
@@ -347,7 +353,7 @@ const ROWS: &[Row] = &[
     },
 ];
 
-// Each of these came, in order: on each link the octets of its telegrams.
+/// Reports whether these answers came, in order. The octets of a link are those of its telegrams.
 fn have_come(alloc: Global, came: &[Octets], answers: &[&[&[u8]]]) -> Option<bool> {
     for (came, telegrams) in came.iter().zip(answers) {
         if came.as_slice() != joined(alloc, telegrams)?.as_slice() {
@@ -357,12 +363,12 @@ fn have_come(alloc: Global, came: &[Octets], answers: &[&[&[u8]]]) -> Option<boo
     Some(came.len() == answers.len())
 }
 
-// The server ended with this status and report, and kept no link for too long.
+/// Reports whether the server ended with this status and report, and delayed no link for too long.
 fn reports(left: &Left, status: u8, report: &str) -> bool {
     left.status == status && left.out.text() == report.as_bytes() && !left.gave_up
 }
 
-// The observer was told of so many entries, and has this event as the newest and only one.
+/// Reports whether the observer counted this number of events, and keeps this one, the newest.
 fn is_told(left: &Left, count: u64, newest: &Option<Event>) -> Option<bool> {
     let watcher = left.run.as_ref()?.book.observers.first()?;
     Some(
@@ -373,8 +379,8 @@ fn is_told(left: &Left, count: u64, newest: &Option<Event>) -> Option<bool> {
     )
 }
 
-// Both links were negotiated, and the second one was still served once the first one was told its end, before which
-// nothing came.
+/// Reports whether both links were negotiated, nothing came on the first one before its end, and the second one was
+/// served after that.
 fn are_served(came: &[Octets]) -> bool {
     match came.split_last() {
         Some((rest, answers)) => {
@@ -385,7 +391,7 @@ fn are_served(came: &[Octets]) -> bool {
     }
 }
 
-// The first link ended so, the second one as links do, and one entry was made.
+/// Reports whether the first link ended with this outcome, the second one without a fault, and one entry was made.
 fn have_ended(left: &Left, first: &Outcome) -> Option<bool> {
     let run = left.run.as_ref()?;
     match run.links.as_slice() {
@@ -396,7 +402,7 @@ fn have_ended(left: &Left, first: &Outcome) -> Option<bool> {
     }
 }
 
-// It is what was wanted.
+/// Reports whether a call left what is wanted.
 fn is(alloc: Global, left: &Left, wanted: &Wanted) -> Option<bool> {
     let came = left.came.first()?.as_slice();
     match wanted {
@@ -415,11 +421,12 @@ fn is(alloc: Global, left: &Left, wanted: &Wanted) -> Option<bool> {
     }
 }
 
-// It goes as a row says.
+/// Reports whether a row holds.
 fn goes<R: Threads + Wait + Clock + Sync>(rt: &R, host: HostRuntime, row: &Row) -> Option<bool> {
     is(host.alloc(), &called(rt, host, &row.call)?, &row.wanted)
 }
 
+/// Servers answer, report and leave what the rows say.
 #[test]
 fn servers_answer_and_leave_what_they_are_asked(rt: HostRuntime) {
     for (number, row) in ROWS.iter().enumerate() {

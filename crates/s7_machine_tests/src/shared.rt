@@ -1,4 +1,4 @@
-// Clients that write data blocks of their own and a shared one, beside one another.
+//! Clients that write data blocks of their own and a shared one, at the same time.
 use crate::telegrams::{CONFIRM, CONNECT, GRANTED, SETUP, are, joined, packets};
 use crate::walk::{Walk, key_of};
 use s7_area::Areas;
@@ -6,7 +6,7 @@ use s7_outer::Octets;
 use s7_plant::{Book, Entry, Tail};
 use std::alloc::Global;
 
-/// The data blocks from 1 to 9.
+/// An area file of the data blocks from 1 to 9.
 pub(crate) const AREAS: &[u8] = b"\
 s7 areas 1
 DB 1 4
@@ -29,47 +29,55 @@ DB 9 4
 11223344
 ";
 
-/// How many clients there are.
+/// The number of clients.
 pub(crate) const CLIENTS: u8 = 8;
 
-/// How often each writes.
+/// The number of rounds of each client.
 const ROUNDS: u8 = 20;
 
-/// The data block that all write.
+/// The data block that all clients write.
 pub(crate) const SHARED: u8 = 9;
 
-/// The first octet of a read's reference. A write has its data block's number there, and both the round
-/// in the second octet.
+/// The first octet of the reference of a read. That of a write is the number of its data block. The second octet of
+/// both is the round.
 pub(crate) const READS: u8 = 10;
 
+/// The octets of a write before its reference.
 const WRITE: &[u8] = b"\x03\x00\x00\x27\x02\xF0\x80\x32\x01\x00\x00";
 
+/// The octets of a write between its reference and the number of its data block.
 const ONE_ITEM: &[u8] = b"\x00\x0E\x00\x08\x05\x01\x12\x0A\x10\x02\x00\x04\x00";
 
+/// The octets of a write between the number of its data block and its four octets.
 const FOUR_OCTETS: &[u8] = b"\x84\x00\x00\x00\x00\x04\x00\x20";
 
+/// The octets of the answer to a write before its reference.
 const WRITE_ANSWER: &[u8] = b"\x03\x00\x00\x16\x02\xF0\x80\x32\x03\x00\x00";
 
+/// The octets of the answer to a write after its reference.
 const WRITTEN: &[u8] = b"\x00\x02\x00\x01\x00\x00\x05\x01\xFF";
 
+/// The octets of a read before its reference.
 const READ: &[u8] = b"\x03\x00\x00\x2B\x02\xF0\x80\x32\x01\x00\x00";
 
+/// The octets of a read between its reference and the number of the client's data block.
 const TWO_ITEMS: &[u8] = b"\x00\x1A\x00\x00\x04\x02\x12\x0A\x10\x02\x00\x04\x00";
 
+/// The octets of a read after the number of the client's data block.
 const AND_SHARED: &[u8] = b"\x84\x00\x00\x00\x12\x0A\x10\x02\x00\x04\x00\x09\x84\x00\x00\x00";
 
-/// What a client writes into a data block in a round.
+/// The octets that a client writes to a data block in a round.
 pub(crate) fn value_of(client: u8, round: u8, block: u8) -> [u8; 4] {
     [client, round, block, 0xA5]
 }
 
-// A read of the client's own data block and of the shared one.
+/// A read of the client's own data block and of the shared one.
 fn read(alloc: Global, client: u8, round: u8) -> Option<Octets> {
     let reference = [READS, round];
     joined(alloc, &[READ, &reference, TWO_ITEMS, &[client], AND_SHARED])
 }
 
-// A write of one data block.
+/// A write of one data block.
 fn write(alloc: Global, client: u8, round: u8, block: u8) -> Option<Octets> {
     let reference = [block, round];
     let value = value_of(client, round, block);
@@ -79,7 +87,7 @@ fn write(alloc: Global, client: u8, round: u8, block: u8) -> Option<Octets> {
     )
 }
 
-/// What a client sends: a read before the first round, and two writes and a read in each.
+/// The telegrams of a client: a read before the first round, and two writes and a read in each round.
 pub(crate) fn telegrams_of(alloc: Global, client: u8) -> Option<Vec<Octets>> {
     let mut all = packets(alloc, &[CONNECT, SETUP])?;
     all.push(read(alloc, client, 0)?).ok()?;
@@ -91,7 +99,7 @@ pub(crate) fn telegrams_of(alloc: Global, client: u8) -> Option<Vec<Octets>> {
     Some(all)
 }
 
-// The answer is that to a write of this data block.
+/// Reports whether an answer is that to a write of this data block.
 fn is_written(alloc: Global, answer: &Octets, block: u8, round: u8) -> bool {
     match joined(alloc, &[WRITE_ANSWER, &[block, round], WRITTEN]) {
         Some(wanted) => answer.as_slice() == wanted.as_slice(),
@@ -99,7 +107,7 @@ fn is_written(alloc: Global, answer: &Octets, block: u8, round: u8) -> bool {
     }
 }
 
-// Both writes of a round are answered, and a read.
+/// Reports whether both writes of a round are answered, and there is an answer to a read.
 fn is_round(alloc: Global, client: u8, round: u8, answers: &[Octets]) -> bool {
     match answers {
         [own, shared, _] => {
@@ -109,7 +117,7 @@ fn is_round(alloc: Global, client: u8, round: u8, answers: &[Octets]) -> bool {
     }
 }
 
-// All rounds of a client are answered.
+/// Reports whether all rounds of a client are answered.
 fn are_rounds(alloc: Global, client: u8, answers: &[Octets]) -> bool {
     let mut round = 0u8;
     for answers in answers.chunks(3) {
@@ -121,14 +129,14 @@ fn are_rounds(alloc: Global, client: u8, answers: &[Octets]) -> bool {
     round == ROUNDS
 }
 
-// The negotiation and all writes of a client are answered, and a read before the first round.
+/// Reports whether the negotiation and all writes of a client are answered, and there is an answer to the first read.
 fn is_answered(alloc: Global, client: u8, answers: &[Octets]) -> Option<bool> {
     let (opened, rest) = answers.split_at_checked(2)?;
     let (_, rounds) = rest.split_at_checked(1)?;
     Some(are(opened, &[CONFIRM, GRANTED]) && are_rounds(alloc, client, rounds))
 }
 
-// All clients are answered.
+/// Reports whether all clients are answered.
 fn are_answered(alloc: Global, came: &[Vec<Octets>]) -> bool {
     let mut client = 0u8;
     for answers in came {
@@ -140,7 +148,7 @@ fn are_answered(alloc: Global, came: &[Vec<Octets>]) -> bool {
     client == CLIENTS
 }
 
-// The walk over all entries, which shows each client what the entries before each of its reads left.
+/// The walk over all entries, which compares the answer to each read with what the entries before it left.
 fn walked<'a>(alloc: Global, came: &'a [Vec<Octets>], journal: &[Entry]) -> Option<Walk<'a>> {
     let mut walk = Walk::new(came);
     for entry in journal {
@@ -149,7 +157,7 @@ fn walked<'a>(alloc: Global, came: &'a [Vec<Octets>], journal: &[Entry]) -> Opti
     Some(walk)
 }
 
-// The plant is what all entries left, and each client has read so often.
+/// Reports whether the plant has what all entries left, and each client has read in each round.
 fn is_left(areas: &Areas, walk: &Walk<'_>) -> Option<bool> {
     for block in 1..=SHARED {
         let left = areas.octets_of(key_of(u16::from(block)))?;
@@ -162,7 +170,8 @@ fn is_left(areas: &Areas, walk: &Walk<'_>) -> Option<bool> {
     Some(true)
 }
 
-/// All clients were answered, and shown what the entries before each read left, and the plant is what all entries left.
+/// Reports whether all clients were answered, each read shows what the entries before it left, and the plant has what
+/// all entries left.
 pub(crate) fn is_shared(alloc: Global, came: &[Vec<Octets>], book: &Book<Tail>) -> Option<bool> {
     let walk = walked(alloc, came, book.journal.as_slice())?;
     Some(are_answered(alloc, came) && is_left(&book.plant.areas, &walk)?)

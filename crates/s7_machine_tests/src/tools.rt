@@ -1,7 +1,7 @@
-// A tool that is called as the program calls it, over a port of this machine: what it sends, what it prints, and of
-// which jobs its completion is told.
-//
-// `tool_main` is called in `ended` alone, since each function that calls it is costly to prove.
+//! Tests of a tool that is called as the program calls it, over a port of this machine: what it sends, what it prints,
+//! and the jobs that its completion counts.
+//!
+//! Only `ended` calls `tool_main`, since each function that calls it is costly to prove.
 use crate::line::{Doorway, Line, listen_from, next, rest_of, takes};
 use crate::telegrams::{CONFIRM, CONNECT, DISCONNECT, joined};
 use s7_client::{Config, Counter};
@@ -24,63 +24,65 @@ const FILES: [(&str, &str); 4] = [
     ("s.txt", "send 00000001 aabbcc\n"),
 ];
 
-/// How many octets the output takes, where a row says nothing else.
+/// The number of octets for which the output has room if a row says nothing else.
 const ROOM: usize = 65_536;
 
-/// The negotiation of a client, which is its first job, and what grants a PDU of 480.
+/// The negotiation of a client, which is its first job.
 const SETUP_1: &[u8] = &[
     0x03, 0x00, 0x00, 0x19, 0x02, 0xF0, 0x80, 0x32, 0x01, 0x00, 0x00, 0x00, 0x01, 0x00, 0x08, 0x00,
     0x00, 0xF0, 0x00, 0x00, 0x01, 0x00, 0x01, 0x01, 0xE0,
 ];
 
+/// The grant of a PDU length of 480.
 const GRANTED_1: &[u8] = &[
     0x03, 0x00, 0x00, 0x1B, 0x02, 0xF0, 0x80, 0x32, 0x03, 0x00, 0x00, 0x00, 0x01, 0x00, 0x08, 0x00,
     0x00, 0x00, 0x00, 0xF0, 0x00, 0x00, 0x01, 0x00, 0x01, 0x01, 0xE0,
 ];
 
-/// The read of four octets, which is its second job, its answer, and the same answer to a third job.
+/// The read of four octets, which is the second job of a client.
 const READ_2: &[u8] = &[
     0x03, 0x00, 0x00, 0x1F, 0x02, 0xF0, 0x80, 0x32, 0x01, 0x00, 0x00, 0x00, 0x02, 0x00, 0x0E, 0x00,
     0x00, 0x04, 0x01, 0x12, 0x0A, 0x10, 0x02, 0x00, 0x04, 0x00, 0x01, 0x84, 0x00, 0x00, 0x00,
 ];
 
+/// The answer to that read.
 const ANSWER_2: &[u8] = &[
     0x03, 0x00, 0x00, 0x1D, 0x02, 0xF0, 0x80, 0x32, 0x03, 0x00, 0x00, 0x00, 0x02, 0x00, 0x02, 0x00,
     0x08, 0x00, 0x00, 0x04, 0x01, 0xFF, 0x04, 0x00, 0x20, 0x11, 0x22, 0x33, 0x44,
 ];
 
+/// The same answer, to a third job.
 const ANSWER_3: &[u8] = &[
     0x03, 0x00, 0x00, 0x1D, 0x02, 0xF0, 0x80, 0x32, 0x03, 0x00, 0x00, 0x00, 0x03, 0x00, 0x02, 0x00,
     0x08, 0x00, 0x00, 0x04, 0x01, 0xFF, 0x04, 0x00, 0x20, 0x11, 0x22, 0x33, 0x44,
 ];
 
-/// Who takes the link.
+/// The peer of the link.
 enum Peer {
-    /// Nobody, and the words name the port.
+    /// There is no peer, and the words name the port.
     Nobody,
-    /// One who gives these octets.
+    /// A peer that gives these octets.
     Gives(&'static [&'static [u8]]),
     /// A passive partner.
     Partner,
 }
 
-/// A command over files and a link, or over a rig.
+/// A command over files and a link, or over a rig, and its outcome.
 struct Command {
     words: &'static [&'static str],
-    /// How many octets the output takes.
+    /// The number of octets for which the output has room.
     room: usize,
     peer: Peer,
-    /// What comes to the peer.
+    /// The octets that come to the peer.
     came: &'static [&'static [u8]],
     status: u8,
-    /// What is printed, where the row says it.
+    /// The text that is printed, if the row names one.
     report: Option<&'static str>,
-    /// Of how many jobs the completion is told, the last with its number and code.
+    /// The number of jobs that the completion counts, and the number and the code of the last one.
     told: (u64, Option<(u8, u32)>),
 }
 
-/// Where there is no peer, the port is one that nobody hears. Of a rig's jobs the completion is told of the first
-/// client's.
+/// The commands. Without a peer, nobody listens on the port. The completion of a rig counts the first client's jobs.
 const COMMANDS: &[Command] = &[
     Command {
         words: &["run", "a.txt"],
@@ -186,7 +188,7 @@ const COMMANDS: &[Command] = &[
     },
 ];
 
-/// What comes to a peer, how a call ended, with the completion that came back, and what it printed.
+/// The outcome of a call: what came to its peer, its status, the completion that came back, and its output.
 #[derive(Drop)]
 struct Told {
     came: Octets,
@@ -195,6 +197,7 @@ struct Told {
     out: MemoryOut,
 }
 
+/// The files.
 fn files(alloc: Global) -> Option<MemoryFiles> {
     let mut files = MemoryFiles::new();
     for (path, text) in FILES {
@@ -204,11 +207,12 @@ fn files(alloc: Global) -> Option<MemoryFiles> {
     Some(files)
 }
 
+/// An output of this room.
 fn an_output(alloc: Global, room: usize) -> Option<MemoryOut> {
     MemoryOut::new(alloc, room).ok()
 }
 
-// How a call ends whose completion was told of nothing before it.
+/// The end of a call, whose completion counted nothing before it.
 fn ended(
     alloc: Global,
     words: &[&str],
@@ -219,8 +223,8 @@ fn ended(
     tool_main(alloc, words, files, dial, out, Some(Counter::new()))
 }
 
-// What is told of a call, without what came to its peer. The call's link is closed here, since the peer waits for the
-// end of what comes.
+/// The outcome of a call, without what came to its peer. The call's link is closed here, since the peer waits for the
+/// end of what comes.
 fn tells(host: HostRuntime, words: &[&str], room: usize) -> Option<Told> {
     let alloc = host.alloc();
     let mut files = files(alloc)?;
@@ -236,7 +240,7 @@ fn tells(host: HostRuntime, words: &[&str], room: usize) -> Option<Told> {
     })
 }
 
-// What is told of a call with the words of a line.
+/// The outcome of a call with the words of a line.
 fn line_tells(host: HostRuntime, line: &str, room: usize) -> Option<Told> {
     let mut words = Vec::new(host.alloc());
     for word in line.split_ascii_whitespace() {
@@ -245,7 +249,7 @@ fn line_tells(host: HostRuntime, line: &str, room: usize) -> Option<Told> {
     tells(host, words.as_slice(), room)
 }
 
-// What is told of a call of two words, which are followed by a port.
+/// The outcome of a call of two words, which are followed by a port.
 fn tells_at(host: HostRuntime, command: &Command, port: u16) -> Option<Told> {
     let [name, file] = command.words else {
         return None;
@@ -254,17 +258,18 @@ fn tells_at(host: HostRuntime, command: &Command, port: u16) -> Option<Told> {
     line_tells(host, line.as_str(), command.room)
 }
 
-// A partner that listens.
+/// A partner that listens.
 fn a_partner(alloc: Global) -> Option<Partner> {
     Partner::new(alloc, Role::Passive, Config::new(1, 0, 2)).ok()
 }
 
-// What comes of a poll. None where memory was wanting.
+/// The event of a poll. There is none if memory is missing.
 fn polled(alloc: Global, partner: &mut Partner, line: &mut Line) -> Option<PartnerEvent> {
     partner.poll(alloc, line).ok()
 }
 
-// The partner closed. A block that it received under R_ID 1 is appended; None comes of any other event of a block.
+/// Reports whether the partner closed. A block that it received under R_ID 1 is appended. The answer is missing after
+/// another event of a block.
 fn is_closed(event: PartnerEvent, came: &mut Vec<Octets>) -> Option<bool> {
     match event {
         PartnerEvent::Received { rid: 1, body } => {
@@ -277,7 +282,7 @@ fn is_closed(event: PartnerEvent, came: &mut Vec<Octets>) -> Option<bool> {
     }
 }
 
-// The block under R_ID 1 that a passive partner hands out on a link before it ends.
+/// The block under R_ID 1 that a passive partner delivers on a link before it ends.
 fn handed_out(alloc: Global, line: &mut Line) -> Option<Octets> {
     let mut partner = a_partner(alloc)?;
     let mut came = Vec::new(alloc);
@@ -290,7 +295,7 @@ fn handed_out(alloc: Global, line: &mut Line) -> Option<Octets> {
     None
 }
 
-// What comes up to the end to one who gives these octets.
+/// The octets that come up to the end to a peer that gives these.
 fn answered(alloc: Global, line: &mut Line, given: &[&[u8]]) -> Option<Octets> {
     let given = joined(alloc, given)?;
     if takes(line, given.as_slice()) {
@@ -300,7 +305,7 @@ fn answered(alloc: Global, line: &mut Line, given: &[&[u8]]) -> Option<Octets> {
     }
 }
 
-// What comes to a peer on the next link of a door.
+/// What comes to a peer on the next link of a door.
 fn comes(host: HostRuntime, mut door: Doorway, peer: &Peer) -> Option<Octets> {
     let Arrival::Link(mut line) = next(&mut door) else {
         return None;
@@ -312,7 +317,7 @@ fn comes(host: HostRuntime, mut door: Doorway, peer: &Peer) -> Option<Octets> {
     }
 }
 
-// What is told of a call and comes to its peer.
+/// The outcome of a call over TCP, with what came to its peer.
 fn over_tcp<R: Threads>(rt: &R, host: HostRuntime, command: &Command) -> Option<Told> {
     let mut door = TcpDoor::new(host);
     let port = listen_from(&mut door, 24_102)?;
@@ -326,7 +331,7 @@ fn over_tcp<R: Threads>(rt: &R, host: HostRuntime, command: &Command) -> Option<
     Some(told)
 }
 
-// What is told of a command.
+/// The outcome of a command.
 fn told_of<R: Threads>(rt: &R, host: HostRuntime, command: &Command) -> Option<Told> {
     match command.peer {
         Peer::Nobody => tells(host, command.words, command.room),
@@ -334,7 +339,7 @@ fn told_of<R: Threads>(rt: &R, host: HostRuntime, command: &Command) -> Option<T
     }
 }
 
-// The completion was told of so many jobs, the last with this number and this code.
+/// Reports whether the completion counted this number of jobs, and the last one has this number and this code.
 fn counts(done: &Option<Counter>, calls: u64, last: Option<(u8, u32)>) -> bool {
     match done {
         Some(counter) => counter.calls() == calls && counter.last() == last,
@@ -342,7 +347,7 @@ fn counts(done: &Option<Counter>, calls: u64, last: Option<(u8, u32)>) -> bool {
     }
 }
 
-// It printed this, where there is a text.
+/// Reports whether this text was printed, if there is one.
 fn prints(out: &MemoryOut, report: &Option<&str>) -> bool {
     match report {
         Some(report) => out.text() == report.as_bytes(),
@@ -350,7 +355,7 @@ fn prints(out: &MemoryOut, report: &Option<&str>) -> bool {
     }
 }
 
-// The command sends, prints and tells what it says.
+/// Reports whether a command has its outcome.
 fn goes<R: Threads>(rt: &R, host: HostRuntime, command: &Command) -> Option<bool> {
     let told = told_of(rt, host, command)?;
     let came = joined(host.alloc(), command.came)?;
@@ -363,6 +368,7 @@ fn goes<R: Threads>(rt: &R, host: HostRuntime, command: &Command) -> Option<bool
     )
 }
 
+/// Tools send, print and count what the commands say.
 #[test]
 fn tools_send_and_print_and_tell_of_jobs_alone(rt: HostRuntime) {
     for (number, command) in COMMANDS.iter().enumerate() {

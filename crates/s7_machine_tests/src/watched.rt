@@ -1,9 +1,9 @@
-// A link and a door that watch in which order they are called.
+//! A link and a door that count calls which come too late.
 ghost use Rattle.std.specs.Prelude.{◌≡◌};
 
 use s7_outer::{Arrival, Clock, Door, DoorFailed, Got, Link, Sent, Tick};
 
-/// A link that counts the calls for octets that come once it is shut.
+/// A link that counts the calls for octets after its shutdown.
 #[derive(Drop)]
 pub(crate) struct WatchedLink<L> {
     pub(crate) link: L,
@@ -12,7 +12,7 @@ pub(crate) struct WatchedLink<L> {
 }
 
 impl<L> WatchedLink<L> {
-    // An octet is to move.
+    /// Counts a call for octets if the link is shut.
     fn watch(&mut self)
         ensures { self.new.link ≡ self.old.link }
     {
@@ -47,7 +47,7 @@ impl<L: Clock> Clock for WatchedLink<L> {
     }
 }
 
-/// A door that counts how often it is told to listen, and asked for a link behind its end or its failure.
+/// A door that counts the calls to listen, and those for a link after its end or its failure.
 #[derive(Drop)]
 pub(crate) struct WatchedDoor<D> {
     pub(crate) door: D,

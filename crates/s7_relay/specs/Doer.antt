@@ -1,12 +1,13 @@
 -- A doer that relays, as contracts see it.
-use Rattle.std.specs.Prelude.{◌≡◌, ◌≤◌, ℕ, ◌+◌, List, [], ◌∷◌, ◌++◌}
+use Rattle.std.specs.Prelude.{◌≡◌, ◌≤◌, ℕ, ◌+◌, List, [], ◌∷◌, ◌++◌, length, Option, None, Some}
 use Rattle.s7_outer.specs.DialShown.{DialShown}
 use Rattle.s7_outer.specs.Shown.{Shown}
-use Rattle.s7_plant.specs.Replies.{said_of}
+use Rattle.s7_plant.specs.Replies.{Said, said_of}
+use Rattle.s7_plant.specs.declared.request.Ask.{Ask}
 use Rattle.s7_session.specs.Entry.{Entry}
 use Rattle.s7_dialogue.specs.declared.config.Config.{Config}
-use Rattle.s7_relay.specs.Acts.{Act, Lead, relayed_in}
-use Rattle.s7_relay.specs.Far.{FarModel, FarServer, far_faults, far_model, first_far, server_of}
+use Rattle.s7_relay.specs.Acts.{Act, IsRelayed, Lead, relayed_in}
+use Rattle.s7_relay.specs.Far.{FarModel, FarServer, Lacks, far_faults, far_model, first_far, server_of}
 use Rattle.s7_relay.specs.declared.passage.Relayed.{Relayed}
 use Rattle.s7_relay.specs.declared.relay_doer.RelayDoer.{RelayDoer}
 use Rattle.s7_relay.specs.declared.windows.Window.{Window}
@@ -57,3 +58,15 @@ pub record GoesOn {M : Type 0} (shows : M → Shown) (old new : DoerModel M) : T
   pub lead : Lead shows old.server old.windows old.far acts new.far
   pub kept : new.kept ≡ old.kept ++ relayed_in acts
   pub faults : far_faults old.server old.far ≤ far_faults old.server new.far
+
+-- WHAT ONE CALL DID with a request. It entered the request: exactly one telegram was relayed, and it is kept as the last
+-- one. Or it didn't enter it: nothing more is kept, and nothing happened on the far side but what may happen before an
+-- allocation fails. At the limit nothing happened at all.
+abbrev pub Did : {M : Type 0} → (M → Shown) → DoerModel M → Ask → Option (ℕ × Said) → DoerModel M → Type 0
+Did shows old ask (Some done) new =
+    (r : Relayed) × (r.ask ≡ ask) × (said_of r.reply ≡ done.1) × (done.0 ≡ length old.kept)
+    × IsRelayed shows old.server old.windows old.far new.far r
+    × (new ≡ record old { far = new.far; kept = old.kept ++ r ∷ [] })
+Did shows old ask None new =
+    Lacks shows old.server old.far new.far × (length old.kept ≡ old.limit → new.far ≡ old.far)
+    × (new ≡ record old { far = new.far })

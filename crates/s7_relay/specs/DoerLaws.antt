@@ -91,7 +91,7 @@ most_faults server far = omega arith
 lacks_same : {M : Type 0} (shows : M → Shown) (server : FarServer) (old new : FarModel M) → Lacks shows server old new
     → far_faults server new ≡ far_faults server old
 lacks_same shows server old new (inl same) = ap (far_faults server) same
-lacks_same shows server old new (inr (inl h)) = dials_same shows server old new h
+lacks_same shows server old new (inr (inl h)) = dials_same shows server old new h.1
 lacks_same shows server old new (inr (inr h)) = reaches_same shows server old new (Some h.0) h.1
 
 leads_hold : {M : Type 0} (shows : M → Shown) (server : FarServer) (ws : List Window) (old new : FarModel M) (act : Act)

@@ -120,4 +120,5 @@ pub record FailsToConnect {M : Type 0} (shows : M → Shown) (server : FarServer
 -- An allocation failed, and the job wasn't begun. A link may have been dialled, and its client connected.
 abbrev pub Lacks : {M : Type 0} → (M → Shown) → FarServer → FarModel M → FarModel M → Type 0
 Lacks shows server old new =
-    (new ≡ old) ⊎ Dials shows server old new ⊎ ((told : JobResult) × Reaches shows server old new (Some told))
+    (new ≡ old) ⊎ ((is_connected old.client ≡ false) × Dials shows server old new)
+    ⊎ ((told : JobResult) × Reaches shows server old new (Some told))

@@ -172,16 +172,18 @@ fn room_for(alloc: Global, request: &Request) -> Result<Reply, Memory>
 
 impl<K: Dial<M> + Drop, M: Link + Drop> Doer for RelayDoer<K, M> {
     ghost use Rattle.std.proofs.Common.{refl};
-    ghost use Rattle.s7_relay.specs.Doer.{GoesOn, doer_model, entries_of};
+    ghost use Rattle.s7_relay.specs.Doer.{Did, GoesOn, doer_model, entries_of};
     ghost use Rattle.s7_relay.specs.DoerLaws.{goes_on_both, goes_on_same};
 
     ghost stands = { λ d entries. entries ≡ entries_of d.kept.items };
 
     ghost is_full = { λ d _. length d.kept.items ≡ d.limit };
 
-    ghost may_lack = { λ d _. Unit {0} };
+    ghost may_lack = { λ d _. length d.kept.items ≡ d.limit → ⊥ };
 
     ghost keeps = { λ d e. GoesOn M.shows (doer_model K.shows M.shows d) (doer_model K.shows M.shows e) };
+
+    ghost did = { λ d ask done e. Did M.shows (doer_model K.shows M.shows d) ask done (doer_model K.shows M.shows e) };
 
     ghost keeps_same = { λ d. goes_on_same M.shows (doer_model K.shows M.shows d) };
 

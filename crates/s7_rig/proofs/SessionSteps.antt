@@ -225,7 +225,7 @@ module _ (opening : Memory) (limit : ℕ) (config : Config) (old : Post) (book b
 
   trail : LooseTrail is_full_in lacks_in did_in keeps_in j.begun o'.mets book'
   trail = loose-append is_full_in lacks_in did_in keeps_in j.begun book book' o.mets new_mets j.trail
-      (loose_of is_full_in lacks_in did_in keeps_in book book' new_mets takes.turn.moves.trail)
+      (loose_of is_full_in lacks_in did_in keeps_in book book' new_mets takes.turn.moves.entries takes.turn.moves.trail)
 
   -- A session that goes on lives, one that closes doesn't do so for want of memory, and one that was closed stays as it
   -- was.
@@ -353,7 +353,7 @@ session_step opening limit config old new book book' stirs o j turn =
 turn_keeps_full : (old new : Post) (book book' : BookTold) (stirs : Bool) → IsSessionTurn old new book book' stirs → StaysFull is_full_in book book'
 turn_keeps_full old new book book' stirs turn =
     loose_stays is_full_in lacks_in did_in keeps_in book book' turn.takes.turn.moves.mets
-    (loose_of is_full_in lacks_in did_in keeps_in book book' turn.takes.turn.moves.mets turn.takes.turn.moves.trail)
+    (loose_of is_full_in lacks_in did_in keeps_in book book' turn.takes.turn.moves.mets turn.takes.turn.moves.entries turn.takes.turn.moves.trail)
 
 -- A book that goes on by calls of another link keeps what holds of a client and its session.
 pub other_step : (opening : Memory) (limit : ℕ) (config : Config) (p : Post) (book book' : BookTold) (other : ℕ) (o : Octets)

@@ -77,7 +77,7 @@ served_link {O} {did} {keeps} opening pipe line d d' o accepted last run none op
     let mine : run.entries ≡ own s d.link history =
     run.doer [] (sym (ap (own (state_of (book_told d.book.now).opening) d.link) none))
     ∙ ap (λ t. own t d'.link history) opened ∙ ap (λ n. own s n history) same in
-    let trail = loose_of is_full lacks did keeps d d' run.mets run.trail in
+    let trail = loose_of is_full lacks did keeps d d' run.mets run.entries run.trail in
     record {
       taken = run.taken;
       written = run.written;

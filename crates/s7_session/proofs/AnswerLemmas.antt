@@ -1,5 +1,5 @@
 -- Laws of what handling a message does.
-use Rattle.std.proofs.Common.{◌≡◌, ◌⊎◌, ℕ, ◌+◌, ◌≤◌, true, false, List, [], ◌∷◌, ◌++◌, refl, ap, sym, ◌∙◌, subst}
+use Rattle.std.proofs.Common.{◌≡◌, ℕ, ◌+◌, ◌≤◌, true, false, List, [], ◌∷◌, ◌++◌, refl, ap, sym, ◌∙◌, subst}
 use Rattle.std.proofs.Common.{append-nil, arith, IsTrue}
 use Rattle.std.specs.Prelude.{Bool, Option, None, Some}
 use Rattle.s7_outer.specs.Count.{Rose, RoseExactly}
@@ -11,7 +11,7 @@ use Rattle.s7_session.specs.Answers.{Answers}
 use Rattle.s7_session.specs.declared.handled.Handled.{Handled}
 use Rattle.s7_session.specs.declared.handled.Handled.TheVariants as handled
 use Rattle.s7_session.specs.declared.outcome.Outcome.TheVariants.{NotS7}
-use Rattle.s7_session.specs.Doers.{GoesOn, Trail}
+use Rattle.s7_session.specs.Doers.{GoesOn, Meets, Trail}
 use Rattle.s7_session.specs.Entry.{Entry}
 use Rattle.s7_session.specs.Errors.{FULL, CLOCK_FAILED}
 use Rattle.s7_session.specs.Events.{lives, closes, Made, settled, asks, by_clock, judged, refusal_sent}
@@ -58,7 +58,7 @@ answers_settled stands full lack did kept line d made at size link sent is = rec
   count = refl;
   last = λ before. refl;
   doer = λ es h. subst (stands d) (sym (append-nil es)) h;
-  trail = subst (λ (ms : List Met). Trail full lack did kept d ms d) (sym (ap (λ (m : Made). m.mets) is)) refl;
+  trail = subst (λ (ms : List Met). Trail full lack did kept d ms [] d) (sym (ap (λ (m : Made). m.mets) is)) (refl, refl);
   line_is = refl;
   clock = (omega arith, omega arith);
   unasked = λ h. refl;
@@ -85,7 +85,7 @@ answers_closing stands full lack did kept line d made at size link sent is none 
   count = refl;
   last = λ before. refl;
   doer = λ es h. subst (stands d) (sym (append-nil es)) h;
-  trail = subst (λ (ms : List Met). Trail full lack did kept d ms d) (sym (ap (λ (m : Made). m.mets) is)) refl;
+  trail = subst (λ (ms : List Met). Trail full lack did kept d ms [] d) (sym (ap (λ (m : Made). m.mets) is)) (refl, refl);
   line_is = refl;
   clock = (omega arith, omega arith);
   unasked = λ h. refl;
@@ -117,7 +117,10 @@ answers_entered stands full lack did kept line line' d d' n link link' sequence 
   count = refl;
   last = λ before. refl;
   doer = doer;
-  trail = trail_one full lack did kept d d' (met asking (Entered reply moment)) (not_full, untimed, (number, entered), still);
+  trail =
+      let made : Ask → List Entry = λ x. record { number = number; ask = x; reply = reply } ∷ [] in
+      trail_one full lack did kept d d' (met asking (Entered reply moment)) (made a)
+      (not_full, untimed, (number, ap made is, entered), still);
   line_is = looked.same;
   clock = (omega (arith, told), omega (arith, told));
   unasked = λ h. looked.unasked h.0;
@@ -146,7 +149,7 @@ answers_full stands full lack did kept line line' d d' n link link' sequence ask
   count = refl;
   last = λ before. refl;
   doer = λ es h. subst (stands d') (sym (append-nil es)) (doer es h);
-  trail = trail_one full lack did kept d d' (met asking Full) (moment, is_full, refused, still);
+  trail = trail_one full lack did kept d d' (met asking Full) [] (moment, is_full, refused, still, refl);
   line_is = looked.same;
   clock = (omega (arith, told), omega (arith, told));
   unasked = λ h. looked.unasked h.0;
@@ -180,8 +183,8 @@ answers_clock_failed stands full lack did kept line line' d n link link' sequenc
       count = refl;
       last = λ before. refl;
       doer = λ es h. subst (stands d) (sym (append-nil es)) h;
-      trail = subst (λ (ms : List Met). Trail full lack did kept d ms d) (sym (ap (λ (m : Made). m.mets) is))
-          (trail_one full lack did kept d d (met asking ClockFailed) (subst IsTrue (sym timed) refl, refl));
+      trail = subst (λ (ms : List Met). Trail full lack did kept d ms [] d) (sym (ap (λ (m : Made). m.mets) is))
+          (trail_one full lack did kept d d (met asking ClockFailed) [] (subst IsTrue (sym timed) refl, refl, refl));
       line_is = looked.same;
       clock = (omega (arith, rose), omega (arith, looked.once));
       unasked = λ h. looked.unasked (subst NoneTimed (ap (λ (m : Made). m.mets) is) h).0;
@@ -194,7 +197,7 @@ answers_clock_failed stands full lack did kept line line' d n link link' sequenc
 pub answers_memory : {D : Type 0} (stands : D → List Entry → Type 0) (full lack : D → Ask → Type 0) (did : D → Ask → Option (ℕ × Said) → D → Type 0) (kept : D → D → Type 0) (line line' : Shown) (d d' : D) (n : ℕ) (link link' : LinkState) (sequence : ℕ) (asking : Asking) (at : ℕ) (sent : List ℕ)
     → Looked line line' asking → line'.clock_faults ≡ line.clock_faults → sent ≡ []
     → ((es : List Entry) → stands d es → stands d' es)
-    → (IsTrue asking.is_copied × (d ≡ d')) ⊎ ((moment : ℕ) × lack d (asking.ask moment) × did d (asking.ask moment) None d' × GoesOn full kept d d')
+    → Meets full lack did kept asking NoMemory d [] d'
     → Answers stands full lack did kept line d line' d' (asks n link sequence asking) at (Some n) link' sent handled.NoMemory
 answers_memory stands full lack did kept line line' d d' n link link' sequence asking at sent looked told none doer lacks = record {
   verdicts = NoMemory ∷ [];
@@ -211,7 +214,7 @@ answers_memory stands full lack did kept line line' d d' n link link' sequence a
   count = refl;
   last = λ before. refl;
   doer = λ es h. subst (stands d') (sym (append-nil es)) (doer es h);
-  trail = trail_one full lack did kept d d' (met asking NoMemory) lacks;
+  trail = trail_one full lack did kept d d' (met asking NoMemory) [] lacks;
   line_is = looked.same;
   clock = (omega (arith, told), omega (arith, told));
   unasked = λ h. looked.unasked h.0;
@@ -239,7 +242,7 @@ same_made stands full lack did kept line line' d d' f g at size link sent result
       count = a.count;
       last = a.last;
       doer = a.doer;
-      trail = subst (λ (ms : List Met). Trail full lack did kept d ms d') (sym (ap (λ (m : Made). m.mets) e)) a.trail;
+      trail = subst (λ (ms : List Met). Trail full lack did kept d ms a.entries d') (sym (ap (λ (m : Made). m.mets) e)) a.trail;
       line_is = a.line_is;
       clock = a.clock;
       unasked = λ h. a.unasked (subst NoneTimed (ap (λ (m : Made). m.mets) e) h);

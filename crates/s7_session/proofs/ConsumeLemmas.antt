@@ -148,7 +148,7 @@ pub record Uses {D : Type 0} (stands : D → List Entry → Type 0) (full lack :
   pub count : entry_count new ≡ entry_count old + length entries
   pub newest : newest new ≡ last_number (newest old) entries
   pub doer : (es : List Entry) → stands d es → stands d' (es ++ entries)
-  pub trail : Trail full lack did kept d ms d'
+  pub trail : Trail full lack did kept d ms entries d'
   pub closed : closed_with new ≡ closed_by result
   pub waits : result ≡ turn.NotYet → ⊥
   pub by_octets : (o : Outcome) → result ≡ turn.Closed o → (o ≢ outcome.ReadFault) × (o ≢ outcome.WriteFault)
@@ -239,7 +239,7 @@ uses_more stands full lack did kept old new line d used going opens found some i
   count = omega (arith, count);
   newest = last;
   doer = λ es h. subst (stands d) (sym (append-nil es)) h;
-  trail = refl;
+  trail = (refl, refl);
   closed = closed;
   waits = went_not_yet;
   by_octets = λ o e. absurd (went_not_closed o e);
@@ -287,7 +287,7 @@ uses_opened stands full lack did kept old new line d used c told going opens fou
   count = omega (arith, count);
   newest = last;
   doer = λ es h. subst (stands d) (sym (append-nil es)) h;
-  trail = refl;
+  trail = (refl, refl);
   closed = closed;
   waits = went_not_yet;
   by_octets = λ o e. absurd (went_not_closed o e);
@@ -497,7 +497,7 @@ uses_ended stands full lack did kept old new line d used found end ends going op
       count = omega (arith, count);
       newest = last;
       doer = λ es h. subst (stands d) (sym (append-nil es)) h;
-      trail = refl;
+      trail = (refl, refl);
       closed = closed;
       waits = closed_not_yet end;
       by_octets = λ o e. subst IsByOctets (same_closed end o e) octets;

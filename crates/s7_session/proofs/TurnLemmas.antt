@@ -222,7 +222,7 @@ moves_plain stands full lack did kept old new link link' d received written k ou
   count = omega (arith, k.count);
   newest = k.newest;
   doer = λ es h. subst (stands d) (sym (append-nil es)) h;
-  trail = refl;
+  trail = (refl, refl);
   clock = (omega (arith, moved.clock_faults), omega (arith, moved.clock_faults));
   unasked = λ h. moved.clock_faults;
   looks = (omega (arith, moved.looks), omega (arith, moved.looks));
@@ -273,7 +273,7 @@ moves_both stands full lack did kept s0 s1 s2 k0 k1 k2 d0 d1 d2 m n =
       count = omega (arith, m.count, n.count, length-append m.entries n.entries);
       newest = n.newest ∙ (ap (λ x. last_number x n.entries) m.newest ∙ sym (last_number-append s0.newest m.entries n.entries));
       doer = λ es h. subst (stands d2) (append_assoc es m.entries n.entries) (n.doer (es ++ m.entries) (m.doer es h));
-      trail = trail-append full lack did kept d0 d1 d2 m.mets n.mets m.trail n.trail;
+      trail = trail-append full lack did kept d0 d1 d2 m.mets n.mets m.entries n.entries m.trail n.trail;
       clock =
           subst (λ (x : ℕ). RoseExactly x k0.clock_faults k2.clock_faults) (sym (ap clock_failures vs ∙ clock_failures-append (verdicts_of m.mets) (verdicts_of n.mets)))
           (rose_both (clock_failures (verdicts_of m.mets)) (clock_failures (verdicts_of n.mets)) k0.clock_faults k1.clock_faults k2.clock_faults m.clock n.clock);

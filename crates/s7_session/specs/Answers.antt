@@ -58,7 +58,7 @@ pub record Answers {D : Type 0} (stands : D → List Entry → Type 0) (is_full 
   pub count : length entries ≡ entries_by result
   pub last : (before : Option ℕ) → last_number before entries ≡ last_after before result
   pub doer : (es : List Entry) → stands d es → stands d' (es ++ entries)
-  pub trail : Trail is_full may_lack did keeps d (made verdicts).mets d'
+  pub trail : Trail is_full may_lack did keeps d (made verdicts).mets entries d'
   -- nothing of the line changed but two counters: of its clock's failures, by as many as the verdict says, and of its
   -- clock's reads, by one if the telegram needs the time
   pub line_is : line' ≡ record line { clock_faults = line'.clock_faults; looks = line'.looks }

@@ -102,7 +102,7 @@ pub record IsLinkRun {D : Type 0} (stands : D → List Entry → Type 0) (is_ful
   -- the doer entered the requests that have such a verdict, in order and with these replies, and nothing else
   pub entered : map answered entries ≡ entered_of mets
   pub doer : (es : List Entry) → stands d es → stands d' (es ++ entries)
-  pub trail : Trail is_full may_lack did keeps d mets d'
+  pub trail : Trail is_full may_lack did keeps d mets entries d'
   pub count : accepted ≡ length entries
   pub last_is : last ≡ last_number None entries
   pub clock : RoseExactly (clock_failures (verdicts_of mets)) link.clock_faults link'.clock_faults

@@ -123,7 +123,7 @@ pub record Moves {D : Type 0} (stands : D → List Entry → Type 0) (is_full ma
   pub count : entry_count new ≡ entry_count old + length entries
   pub newest : newest new ≡ last_number (newest old) entries
   pub doer : (es : List Entry) → stands d es → stands d' (es ++ entries)
-  pub trail : Trail is_full may_lack did keeps d mets d'
+  pub trail : Trail is_full may_lack did keeps d mets entries d'
   -- the clock failed as often as the verdicts say, showed one moment, and was read once for each telegram that needs
   -- the moment, and at no other time
   pub clock : RoseExactly (clock_failures (verdicts_of mets)) link.clock_faults link'.clock_faults
@@ -264,7 +264,7 @@ pub record Consumes {D : Type 0} (stands : D → List Entry → Type 0) (is_full
   pub count : entry_count new ≡ entry_count old + length entries
   pub newest : newest new ≡ last_number (newest old) entries
   pub doer : (es : List Entry) → stands d es → stands d' (es ++ entries)
-  pub trail : Trail is_full may_lack did keeps d mets d'
+  pub trail : Trail is_full may_lack did keeps d mets entries d'
   pub closed : closed_with new ≡ closed_by result
   pub waits : result ≡ turn.NotYet → ⊥
   pub by_octets : (o : Outcome) → result ≡ turn.Closed o → (o ≢ outcome.ReadFault) × (o ≢ outcome.WriteFault)

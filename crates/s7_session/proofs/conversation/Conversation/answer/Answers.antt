@@ -33,7 +33,7 @@ returns-in-Err-clause-answers g c = λ at.
     (same_made g.D.Doer.stands g.D.Doer.is_full g.D.Doer.may_lack g.D.Doer.did g.D.Doer.keeps line line c.args.doer.now c.args.doer.now _ _ at _ _ _ _
     (λ vs. ap (λ j. by_judgement n link sequence vs (judgement_of link sequence j)) c.in-Write.is)
     (answers_memory g.D.Doer.stands g.D.Doer.is_full g.D.Doer.may_lack g.D.Doer.did g.D.Doer.keeps line line c.args.doer.now c.args.doer.now n link link sequence
-    (plainly link sequence (Write c.in-Write.items c.in-Write.places c.in-Write.body.now)) at _ (looked_not line _ refl) refl c.requires.sent (λ es h. h) (inl (refl, refl))))
+    (plainly link sequence (Write c.in-Write.items c.in-Write.places c.in-Write.body.now)) at _ (looked_not line _ refl) refl c.requires.sent (λ es h. h) (inl (refl, refl, refl))))
 
 pub returns-in-Refuse-clause-answers : goal.returns-in-Refuse-clause-answers
 returns-in-Refuse-clause-answers g c = λ at.

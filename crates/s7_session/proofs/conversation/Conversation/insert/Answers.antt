@@ -73,4 +73,4 @@ returns-in-Err-clause-answers g c = λ line at.
     ∙ ap (λ (b : Bool). by_judgement n link sequence vs (cond b (asks_plainly link sequence request) (refuse NotAllowed))) (sym c.is_insertable.ensures ∙ c.if-not-is_insertable.false))
     (answers_memory g.D.Doer.stands g.D.Doer.is_full g.D.Doer.may_lack g.D.Doer.did g.D.Doer.keeps line line c.args.doer.now c.args.doer.now n link link
     sequence (plainly link sequence request) at _ (looked_not line _ refl) refl c.requires.sent (λ es h. h)
-    (inl (refl, refl)))
+    (inl (refl, refl, refl)))

@@ -76,5 +76,10 @@ returns-clause-answers g c = λ at.
     answers_memory g.D.Doer.stands g.D.Doer.is_full g.D.Doer.may_lack g.D.Doer.did g.D.Doer.keeps (g.L.Link.shows c.args.line.now) (g.L.Link.shows c.request.new.line) c.args.doer.now c.act.new.self
     c.args.size.octets link link c.args.sequence (queries link c.args.pdu c.args.sequence c.args.query) at _
     (record { same = k.same; once = k.once; unasked = k.unasked; looks = k.looks }) c.in-Some.ensures.told c.requires.sent f.ensures.err
-    (inr (m.moment, subst (g.D.Doer.may_lack c.args.doer.now) (kept_is c.args.self.now.held.right c.in-Some.request c.args.query m.moment m.request_is) (c.act.ensures.lacked f.field-0-0 (f.is ∙ ap Err f.field-0-is)).1,
-    subst (λ a. g.D.Doer.did c.args.doer.now a None c.act.new.self) (kept_is c.args.self.now.held.right c.in-Some.request c.args.query m.moment m.request_is) f.ensures.refused, (c.act.ensures.stays_full, c.act.ensures.kept)))
+    (inr (
+      m.moment,
+      subst (g.D.Doer.may_lack c.args.doer.now) (kept_is c.args.self.now.held.right c.in-Some.request c.args.query m.moment m.request_is) (c.act.ensures.lacked f.field-0-0 (f.is ∙ ap Err f.field-0-is)).1,
+      subst (λ a. g.D.Doer.did c.args.doer.now a None c.act.new.self) (kept_is c.args.self.now.held.right c.in-Some.request c.args.query m.moment m.request_is) f.ensures.refused,
+      (c.act.ensures.stays_full, c.act.ensures.kept),
+      refl,
+    ))

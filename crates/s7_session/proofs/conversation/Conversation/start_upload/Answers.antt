@@ -42,4 +42,4 @@ returns-clause-answers g c = λ line at.
     answers_memory g.D.Doer.stands g.D.Doer.is_full g.D.Doer.may_lack g.D.Doer.did g.D.Doer.keeps line line c.args.doer.now c.act.new.self
     c.args.size.octets link link c.args.sequence (by_upload link c.args.sequence c.args.name) at _
     (looked_not line _ refl) refl c.requires.sent f.ensures.err
-    (inr (0, (c.act.ensures.lacked f.field-0-0 (f.is ∙ ap Err f.field-0-is)).1, f.ensures.refused, (c.act.ensures.stays_full, c.act.ensures.kept)))
+    (inr (0, (c.act.ensures.lacked f.field-0-0 (f.is ∙ ap Err f.field-0-is)).1, f.ensures.refused, (c.act.ensures.stays_full, c.act.ensures.kept), refl))
