@@ -3,7 +3,8 @@ ghost use Rattle.std.specs.Prelude.{◌≡◌, ◌<◌, ◌≤◌, ◌*◌, All,
 ghost use Rattle.std.specs.List.{AllByRecursion};
 ghost use Rattle.s7_header.specs.Negotiation.{most_pdu};
 ghost use Rattle.s7_dialogue.specs.declared.job.Job.TheVariants.{Connect, Disconnect};
-ghost use Rattle.s7_rig.specs.Scripts.{ConnectsFirst};
+ghost use Rattle.s7_rig.specs.Scripts.{BeginsWell};
+ghost use Rattle.s7_rig.specs.Shown.{script_told};
 
 use crate::asks::is_same;
 use crate::completions::is_last;
@@ -14,7 +15,7 @@ use s7_client::{Config, Counter, Job};
 use s7_item::Item;
 use s7_outer::Octets;
 use s7_plant::{Book, MOST_BLOCKS, Request, Tail};
-use s7_rig::{RigClient, RigEnd, Schedule, run_rig};
+use s7_rig::{ClientScript, RigClient, RigEnd, Schedule, run_rig};
 use s7_script::{Script, read_script};
 use s7_tool_main::{Head, are_good, made_scripts, rig_text};
 use std::alloc::Global;
@@ -45,15 +46,15 @@ fn bytes(count: u16) -> Item {
     }
 }
 
-// A connect, the job, and a disconnect.
-fn around(alloc: Global, job: Job) -> Option<Vec<Job>>
-    ensures { IfSome result (λ jobs. jobs.items ≡ Connect ∷ job ∷ Disconnect ∷ []) }
+// A connect, the job, and a disconnect, for a client that doesn't halt.
+fn around(alloc: Global, job: Job) -> Option<ClientScript>
+    ensures { IfSome result (λ script. script.jobs.items ≡ Connect ∷ job ∷ Disconnect ∷ []) }
 {
     let mut jobs = Vec::with_capacity(alloc, 3).ok()?;
     jobs.push_reserved(Job::Connect);
     jobs.push_reserved(job);
     jobs.push_reserved(Job::Disconnect);
-    Some(jobs)
+    Some(ClientScript { jobs, halts: false })
 }
 
 // The end of a rig whose counter was told of the jobs of the first client.
@@ -61,7 +62,7 @@ fn told_rig(
     alloc: Global,
     areas: Areas,
     limit: u64,
-    scripts: Vec<Vec<Job>>,
+    scripts: Vec<ClientScript>,
     config: Config,
     schedule: Schedule<'_>,
 ) -> Option<RigEnd>
@@ -73,8 +74,8 @@ fn told_rig(
     requires most_jobs { config.jobs ≤ 8 }
     requires polls { 1 ≤ config.polls }
     requires clients { 0 < length scripts.items }
-    requires connects { AllByRecursion ConnectsFirst (map (λ s. s.items) scripts.items) }
-    requires few_clients { length scripts.items ≤ 1024 }
+    requires connects { AllByRecursion BeginsWell (map script_told scripts.items) }
+    requires few_clients { length scripts.items ≤ 1025 }
     requires actors { All (λ actor. actor < 2 * length scripts.items) schedule.turns.now }
 {
     let mut done = Some(Counter::new());

@@ -33,7 +33,8 @@ use Rattle.s7_session.specs.Telegrams.{entered_of}
 use Rattle.s7_session.specs.Stands.{unread}
 use Rattle.s7_rig.specs.State.{Post}
 use Rattle.s7_rig.specs.Turns.{StartsNext, StartsNothing, with_polled, IsClientTurn}
-use Rattle.s7_rig.specs.Scripts.{IsNoConnect, NoneConnects, ConnectsFirst}
+use Rattle.s7_rig.specs.Scripts.{IsNoConnect, NoneConnects, ConnectsFirst, left_behind}
+use Rattle.s7_rig.proofs.HaltLemmas.{left_keeps}
 use Rattle.s7_rig.specs.Split.{AllStand, state_at}
 use Rattle.s7_rig.proofs.Conversing.{entries_of, rows_of, verdicts_met, Converses, WentBy}
 use Rattle.s7_rig.proofs.Joint.{Octets, IsConnecting, IsWorking, IsFailing, IsLost, ModeOf, own_in, untouched, connecting, connected, working, lost, Joint}
@@ -195,18 +196,18 @@ module _ (opening : Memory) (limit : ℕ) (config : Config) (book : BookTold)
   abbrev after : Octets → List ℕ → List ℕ → Octets
   after o used written = record o { sent = o.sent ++ written; heard = o.heard ++ used }
 
-  abbrev polled_post : Post → Connection → PipesHeld → List JobResult → List (List ℕ) → Option (List ℕ) → Post
-  polled_post p c pipes results places noted = record p { client = c; pipes = pipes; results = results; places = places; noted = noted }
+  abbrev polled_post : Post → Connection → PipesHeld → List Job → List JobResult → List (List ℕ) → Option (List ℕ) → Post
+  polled_post p c pipes rest results places noted = record p { client = c; pipes = pipes; rest = rest; results = results; places = places; noted = noted }
 
-  joint_polled : (p : Post) (c : Connection) (pipes : PipesHeld) (results : List JobResult) (places : List (List ℕ)) (noted : Option (List ℕ)) (loan : GName) (o : Octets)
+  joint_polled : (p : Post) (c : Connection) (pipes : PipesHeld) (rest : List Job) (results : List JobResult) (places : List (List ℕ)) (noted : Option (List ℕ)) (loan : GName) (o : Octets)
       → Joint opening limit config book p o
       → (m : Moves (client.unread_of p.client) (end_of loan p.pipes side.Client) (client.unread_of c) (end_of loan pipes side.Client))
       → client.config_of c ≡ client.config_of p.client
       → AllStand (begins_with opening) (history_of book) p.link config.pdu results places
       → ((AnyFull o.verdicts → ⊥) → AllComeOff opening (history_of book) config.pdu results places)
-      → ModeOf opening config book (polled_post p c pipes results places noted) (after o m.used m.written)
-      → Joint opening limit config book (polled_post p c pipes results places noted) (after o m.used m.written)
-  joint_polled p c pipes results places noted loan o j m same done comes_off mode = record {
+      → ModeOf opening config book (polled_post p c pipes rest results places noted) (after o m.used m.written)
+      → Joint opening limit config book (polled_post p c pipes rest results places noted) (after o m.used m.written)
+  joint_polled p c pipes rest results places noted loan o j m same done comes_off mode = record {
     serving = j.serving;
     taken = taken_on o.sent o.used (unread p.session) p.pipes.to_server m.written pipes.to_server j.taken (wrote loan p.pipes pipes m.written m.wrote);
     given = given_on o.answered o.heard (client.unread_of p.client) p.pipes.to_client m.received m.used (client.unread_of c) pipes.to_client j.given (took loan p.pipes pipes m.received m.took) m.inbox;
@@ -300,7 +301,7 @@ module _ (opening : Memory) (limit : ℕ) (config : Config) (book : BookTold)
     pub comes_off : (AnyFull o'.verdicts → ⊥) → AllComeOff opening (history_of book) config.pdu p.results p.places
         → AllComeOff opening (history_of book) config.pdu (p.results ++ told ∷ [])
         (p.places ++ unwrap_or p.noted [] ∷ [])
-    pub mode : ModeOf opening config book (polled_post p c pipes (p.results ++ told ∷ []) (p.places ++ unwrap_or p.noted [] ∷ []) None) o'
+    pub mode : ModeOf opening config book (polled_post p c pipes (left_behind p.halts told p.rest) (p.results ++ told ∷ []) (p.places ++ unwrap_or p.noted [] ∷ []) None) o'
 
   -- the session owes what the client used, and more that is on its way
   owes : (p : Post) (c : Connection) (pipes : PipesHeld) (o : Octets) (heard : List ℕ) → Joint opening limit config book p o
@@ -338,7 +339,7 @@ module _ (opening : Memory) (limit : ℕ) (config : Config) (book : BookTold)
               ungranted = d.granted ∙ ap (λ (e : End). client.grant_after e.leaves (client.grant_of p.client)) late;
               gone = gone_now p.results told (inl code);
               job = inl idle;
-              jobs = k.jobs;
+              jobs = left_keeps p.halts told p.rest k.jobs;
             });
           }
       by (inl octets) =
@@ -370,7 +371,7 @@ module _ (opening : Memory) (limit : ℕ) (config : Config) (book : BookTold)
               settled = subst (λ x. Settled first x o.verdicts (Some config.pdu)) (sym s.all_used) (subst (λ n. Settled first (o.sent ++ written) o.verdicts (Some n)) pdu s.settled);
               all_used = s.all_used;
               all_heard = ap (λ x. owed first x o.verdicts) s.all_used ∙ s.owed_is;
-              jobs = k.jobs;
+              jobs = left_keeps p.halts told p.rest k.jobs;
             });
           }
 
@@ -425,12 +426,12 @@ module _ (opening : Memory) (limit : ℕ) (config : Config) (book : BookTold)
 
     -- the client isn't connected after it
     lost_by : (leaves : Leaves) → d.end.leaves ≡ leaves → client.grant_after leaves (Some w.grant) ≡ None → IsGone told
-        → ModeOf opening config book (polled_post p c pipes (p.results ++ told ∷ []) (p.places ++ unwrap_or p.noted [] ∷ []) None) (after o used written)
+        → ModeOf opening config book (polled_post p c pipes (left_behind p.halts told p.rest) (p.results ++ told ∷ []) (p.places ++ unwrap_or p.noted [] ∷ []) None) (after o used written)
     lost_by leaves is none gone = lost (record {
       ungranted = d.granted ∙ ap (client.grant_after d.end.leaves) granted ∙ ap (λ l. client.grant_after l (Some w.grant)) is ∙ none;
       gone = gone_now p.results told gone;
       job = inl idle;
-      jobs = w.jobs;
+      jobs = left_keeps p.halts told p.rest w.jobs;
     })
 
     -- it came off, or met too many polls
@@ -534,7 +535,7 @@ module _ (opening : Memory) (limit : ℕ) (config : Config) (book : BookTold)
               settled = subst (λ x. Settled first x o.verdicts (Some config.pdu)) (sym used_all) (subst (λ y. Settled first (w.before ++ sent) y (Some config.pdu)) (sym w.verdicts_are) s.settled);
               all_used = used_all ∙ sym sent_all;
               all_heard = ap (λ x. owed first x o.verdicts) used_all ∙ ap (λ y. owed first (w.before ++ sent) y) w.verdicts_are ∙ s.owed_is ∙ sym heard_all;
-              jobs = w.jobs;
+              jobs = left_keeps p.halts told p.rest w.jobs;
             });
           }
 
@@ -567,7 +568,7 @@ module _ (opening : Memory) (limit : ℕ) (config : Config) (book : BookTold)
       ungranted = d.granted ∙ ap (client.grant_after d.end.leaves) l.ungranted
           ∙ no_connect_leaves f.origin link link' (client.unread_of c) d.end d.carried (f.heard ++ used) (f.sent ++ written) (client.waited_of p.client) d.cause f.job;
       job = inl idle;
-      jobs = l.jobs;
+      jobs = left_keeps p.halts told p.rest l.jobs;
     });
   }
 
@@ -604,7 +605,7 @@ module _ (opening : Memory) (limit : ℕ) (config : Config) (book : BookTold)
     after o m.used m.written,
     refl,
     refl,
-    joint_polled p c pipes p.results p.places p.noted loan o j m same j.done j.comes_off
+    joint_polled p c pipes p.rest p.results p.places p.noted loan o j m same j.done j.comes_off
         (pending_mode p c pipes (end_of loan p.pipes side.Client) (end_of loan pipes side.Client) m.used m.written o comes j.mode),
   )
   poll_by least most p c pipes loan o j m same (polled.Done told) comes =
@@ -615,7 +616,7 @@ module _ (opening : Memory) (limit : ℕ) (config : Config) (book : BookTold)
         after o m.used m.written,
         refl,
         refl,
-        joint_polled p c pipes (p.results ++ told ∷ []) (p.places ++ unwrap_or p.noted [] ∷ []) None loan o j m same
+        joint_polled p c pipes (left_behind p.halts told p.rest) (p.results ++ told ∷ []) (p.places ++ unwrap_or p.noted [] ∷ []) None loan o j m same
             (all_stand_more (begins_with opening) (history_of book) p.link config.pdu p.results p.places told (unwrap_or p.noted []) j.done ends.stands)
             (λ none. ends.comes_off none (j.comes_off none))
             ends.mode,

@@ -11,6 +11,7 @@ use Rattle.s7_client.specs.declared.connection.Connection.{Connection}
 use Rattle.s7_dialogue.specs.Codes.{link_ended, send_failed, receive_failed, timed_out}
 use Rattle.s7_dialogue.specs.declared.config.Config.{Config}
 use Rattle.s7_dialogue.specs.declared.job.Job.{Job}
+use Rattle.s7_rig.specs.Scripts.{Script}
 use Rattle.s7_dialogue.specs.declared.job.JobResult.{JobResult}
 use Rattle.s7_client.specs.declared.job.Polled.{Polled}
 use Rattle.s7_client.specs.declared.job.Polled.TheVariants as polled
@@ -130,7 +131,7 @@ rounds_go law (suc more) old new g (inr (busy, middle, stirs, turns, inl h)) =
 rounds_go law (suc more) old new g (inr (busy, middle, stirs, turns, inr h)) =
     rounds_go law more middle new (turns_go law _ old middle stirs g turns) h.1
 
-fresh_goes : (guard : Option Guard) (config : Config) (link : ℕ) (scripts : List (List Job)) (posts : List Post) → AreFresh guard config link scripts posts → All IsGoing posts
+fresh_goes : (guard : Option Guard) (config : Config) (link : ℕ) (scripts : List Script) (posts : List Post) → AreFresh guard config link scripts posts → All IsGoing posts
 unfolding AreFresh
 fresh_goes guard config link [] [] h = All-nil IsGoing
 fresh_goes guard config link [] (p ∷ posts) h = absurd h
@@ -141,7 +142,7 @@ fresh_goes guard config link (jobs ∷ scripts) (p ∷ posts) h =
     (fresh_goes guard config (link + 1) scripts posts h.1)
 
 -- each result that a rig tells has its form
-pub rig_formed : EndsHaveForm → (opening : Memory) (limit : ℕ) (config : Config) (scripts : List (List Job)) (turning : Turning) (end : EndTold)
+pub rig_formed : EndsHaveForm → (opening : Memory) (limit : ℕ) (config : Config) (scripts : List Script) (turning : Turning) (end : EndTold)
     → RigRan opening limit config scripts turning end → All AreFormed end.clients
 rig_formed law opening limit config scripts turning end h =
     let begun = fresh_goes opening.guard config 1 scripts h.start.posts h.fresh in

@@ -1,3 +1,4 @@
+pub mod HaltLemmas
 pub mod NumbersLemmas
 pub mod LoansLemmas
 pub mod StandingLemmas
@@ -104,3 +105,7 @@ pub mod UserReplyLemmas
 pub mod BlockHeadLemmas
 pub mod BlockReadLemmas
 pub mod JobLawLemmas
+pub mod KeptLemmas
+pub mod FollowLemmas
+pub mod RiseLemmas
+pub mod RigFollows

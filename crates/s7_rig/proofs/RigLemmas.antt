@@ -8,7 +8,6 @@ use Rattle.s7_area.specs.Registers.{IsMemory}
 use Rattle.s7_area.specs.declared.guard.Guard.{Guard}
 use Rattle.s7_header.specs.Negotiation.{most_pdu}
 use Rattle.s7_dialogue.specs.declared.config.Config.{Config}
-use Rattle.s7_dialogue.specs.declared.job.Job.{Job}
 use Rattle.s7_client.specs.Polling as client
 use Rattle.s7_plant.specs.Books.{BookTold}
 use Rattle.s7_plant.specs.Journals.{Entries, AreReady, entries_of, calls_of, after_call}
@@ -29,7 +28,7 @@ use Rattle.s7_rig.specs.State.{Post, State}
 use Rattle.s7_rig.specs.Runs.{AreFresh, IsFreshPost, IsRun, moment}
 use Rattle.s7_rig.specs.Legal.{IsLegalPost, links_of}
 use Rattle.s7_rig.specs.Rigs.{Turning, RigRan}
-use Rattle.s7_rig.specs.Scripts.{ConnectsFirst}
+use Rattle.s7_rig.specs.Scripts.{BeginsWell, ConnectsFirst, Script}
 use Rattle.s7_rig.specs.Shown.{EndTold, state_told, post_told, ClientTold}
 use Rattle.s7_rig.specs.Split.{AllStand}
 use Rattle.s7_rig.specs.Complete.{AllComeOff}
@@ -46,12 +45,12 @@ use Rattle.s7_rig.proofs.SumLemmas.{posts_numbered, posts_counted, calls_within}
 
 -- a client at a place is fresh, with its list of jobs
 record FreshAt (guard : Option Guard) (config : Config) (link : ℕ) (p : Post) : Type 0 where
-  jobs : List Job
+  jobs : Script
   fresh : IsFreshPost guard config link jobs p
-  connects : ConnectsFirst jobs
+  connects : BeginsWell jobs
 
-fresh_at : (guard : Option Guard) (config : Config) (link : ℕ) (scripts : List (List Job)) (posts : List Post) (k : ℕ) (p : Post)
-    → AreFresh guard config link scripts posts → AllByRecursion ConnectsFirst scripts → slice_get posts k ≡ Some p → FreshAt guard config (link + k) p
+fresh_at : (guard : Option Guard) (config : Config) (link : ℕ) (scripts : List Script) (posts : List Post) (k : ℕ) (p : Post)
+    → AreFresh guard config link scripts posts → AllByRecursion BeginsWell scripts → slice_get posts k ≡ Some p → FreshAt guard config (link + k) p
 unfolding AreFresh
 fresh_at guard config link [] [] k p fresh first at = absurd (cc)
 fresh_at guard config link [] (q ∷ posts) k p fresh first at = absurd fresh
@@ -198,8 +197,8 @@ module _ (opening : Memory) (limit : ℕ) (config : Config) where
             ∙ ap (λ s. replay after_call s history) holds.opened;
       }
 
-  pub rig_ran : IsMemory opening → 64 ≤ config.pdu → config.pdu ≤ most_pdu → (scripts : List (List Job)) (turning : Turning) (end : EndTold) (start last : State)
-      → AllByRecursion ConnectsFirst scripts
+  pub rig_ran : IsMemory opening → 64 ≤ config.pdu → config.pdu ≤ most_pdu → (scripts : List Script) (turning : Turning) (end : EndTold) (start last : State)
+      → AllByRecursion BeginsWell scripts
       → state_of start.book.opening ≡ begins_with opening → state_of start.book.plant ≡ begins_with opening → start.book.journal ≡ entries_of [] limit
       → AreFresh opening.guard config 1 scripts start.posts → IsRun turning.turns turning.seed turning.steps start last → end ≡ state_told last
       → RigRan opening limit config scripts turning end

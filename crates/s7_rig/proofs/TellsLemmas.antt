@@ -11,7 +11,7 @@ use Rattle.s7_client.specs.declared.job.Polled.{Polled}
 use Rattle.s7_client.specs.declared.job.Polled.TheVariants as polled
 use Rattle.s7_client.specs.Completions.{Told, told_of_result, told_of_results}
 use Rattle.s7_dialogue.specs.declared.config.Config.{Config}
-use Rattle.s7_dialogue.specs.declared.job.Job.{Job}
+use Rattle.s7_rig.specs.Scripts.{Script}
 use Rattle.s7_area.specs.declared.guard.Guard.{Guard}
 use Rattle.s7_plant.specs.Books.{BookTold}
 use Rattle.s7_rig.specs.declared.station.Station.{Station}
@@ -138,7 +138,7 @@ session_keeps p q b b' stirs t = ap (λ (x : Post). x.results) t.same
 
 -- ---- a whole run
 
-fresh_results : (guard : Option Guard) (config : Config) (link : ℕ) (scripts : List (List Job)) (posts : List Post)
+fresh_results : (guard : Option Guard) (config : Config) (link : ℕ) (scripts : List Script) (posts : List Post)
     → AreFresh guard config link scripts posts → results_in_first (map post_told posts) ≡ []
 unfolding AreFresh
 fresh_results guard config link scripts [] h = refl
@@ -146,7 +146,7 @@ fresh_results guard config link [] (p ∷ posts) h = absurd h
 fresh_results guard config link (jobs ∷ scripts) (p ∷ posts) h = h.0.results
 
 -- what was told since the rig was new
-pub rig_tells : (guard : Option Guard) (config : Config) (scripts : List (List Job)) (start last : State)
+pub rig_tells : (guard : Option Guard) (config : Config) (scripts : List Script) (start last : State)
     (end : EndTold) (x y : Option Told) → AreFresh guard config 1 scripts start.posts → TellsFirst start last x y
     → end ≡ state_told last → y ≡ option_map (λ t. told_of_results t (first_results end)) x
 rig_tells guard config scripts start last end x y fresh tells is =
@@ -195,7 +195,7 @@ wanting_then stops later old middle x y z behind tells w = record {
 }
 
 -- a rig that began so
-module _ (opening : Memory) (limit : ℕ) (config : Config) (scripts : List (List Job)) (start : State)
+module _ (opening : Memory) (limit : ℕ) (config : Config) (scripts : List Script) (start : State)
     (opened : plant.state_of start.book.opening ≡ plant.begins_with opening)
     (unchanged : plant.state_of start.book.plant ≡ plant.begins_with opening)
     (journal : start.book.journal ≡ entries_of [] limit)
@@ -218,7 +218,7 @@ module _ (opening : Memory) (limit : ℕ) (config : Config) (scripts : List (Lis
   )
 
 -- memory was wanting behind a whole run
-pub ran_wanting : (opening : Memory) (limit : ℕ) (config : Config) (scripts : List (List Job)) (turning : Turning)
+pub ran_wanting : (opening : Memory) (limit : ℕ) (config : Config) (scripts : List Script) (turning : Turning)
     (end : EndTold) (x y : Option Told) → RigRan opening limit config scripts turning end
     → y ≡ option_map (λ t. told_of_results t (first_results end)) x
     → ToldWanting opening limit config scripts turning x y

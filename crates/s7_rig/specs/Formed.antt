@@ -7,6 +7,7 @@ use Rattle.s7_dialogue.specs.declared.job.JobResult.{JobResult}
 use Rattle.s7_dialogue.specs.Dialogue.{End}
 use Rattle.s7_client.specs.Form.{HasForm}
 use Rattle.s7_dialogue.specs.Running.{IsResult}
+use Rattle.s7_rig.specs.Scripts.{Script}
 use Rattle.s7_rig.specs.Shown.{ClientTold, EndTold}
 use Rattle.s7_rig.specs.Rigs.{RigRan, Turning}
 
@@ -23,6 +24,6 @@ AreFormed c = All IsFormed c.results
 
 -- However a rig ran, each of its results has its form.
 pub record RigsAreFormed : Type 0 where
-  pub results : (opening : Memory) (limit : ℕ) (config : Config) (scripts : List (List Job)) (turning : Turning)
+  pub results : (opening : Memory) (limit : ℕ) (config : Config) (scripts : List Script) (turning : Turning)
       (end : EndTold)
       → RigRan opening limit config scripts turning end → All AreFormed end.clients

@@ -1,4 +1,5 @@
 pub mod Numbers
+pub mod Scripts
 pub mod State
 pub mod Standing
 pub mod Turns
@@ -16,9 +17,9 @@ pub mod Dialogues
 pub mod Split
 pub mod Jobs
 pub mod Legal
-pub mod Scripts
 pub mod Exchanges
 pub mod Questions
 pub mod Formed
 pub mod Complete
 pub mod Passwords
+pub mod Followed

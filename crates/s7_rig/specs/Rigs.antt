@@ -3,13 +3,13 @@ use Rattle.std.specs.Prelude.{◌≡◌, ◌⊎◌, ℕ, ◌<◌, List, [], leng
 use Rattle.std.specs.List.{AllByRecursion}
 use Rattle.s7_area.specs.Memory.{Memory}
 use Rattle.s7_dialogue.specs.declared.config.Config.{Config}
-use Rattle.s7_dialogue.specs.declared.job.Job.{Job}
 use Rattle.s7_client.specs.Completions.{Told, told_of_results}
 use Rattle.s7_plant.specs.Journals.{entries_of}
 use Rattle.s7_plant.specs.State as plant
 use Rattle.s7_session.specs.Books.{history_of}
 use Rattle.s7_session.specs.Legal.{IsLegalBook}
 use Rattle.s7_rig.specs.State.{Post, State}
+use Rattle.s7_rig.specs.Scripts.{Script}
 use Rattle.s7_rig.specs.Shown.{ClientTold, EndTold, first_results, state_told}
 use Rattle.s7_rig.specs.Legal.{IsLegalPost, links_of}
 use Rattle.s7_rig.specs.Sent.{sent_by, answered_by}
@@ -24,9 +24,9 @@ pub record Turning : Type 0 where
   pub seed : ℕ
   pub steps : ℕ
 
--- A RIG over these areas, with a journal of this limit and a client for each list of jobs, was run, and this is what it
+-- A RIG over these areas, with a journal of this limit and a client for each script, was run, and this is what it
 -- left
-pub record RigRan (opening : Memory) (limit : ℕ) (config : Config) (scripts : List (List Job)) (turning : Turning)
+pub record RigRan (opening : Memory) (limit : ℕ) (config : Config) (scripts : List Script) (turning : Turning)
     (end : EndTold) : Type 0 where
   pub start : State
   pub last : State
@@ -56,7 +56,7 @@ pub record RigRan (opening : Memory) (limit : ℕ) (config : Config) (scripts : 
 -- ---- a rig for which an allocation failed
 
 -- such a rig came to this state: its run stopped there, or ended there
-pub record CameTo (opening : Memory) (limit : ℕ) (config : Config) (scripts : List (List Job)) (turning : Turning)
+pub record CameTo (opening : Memory) (limit : ℕ) (config : Config) (scripts : List Script) (turning : Turning)
     (last : State) : Type 0 where
   pub start : State
   pub opened : plant.state_of start.book.opening ≡ plant.begins_with opening
@@ -68,7 +68,7 @@ pub record CameTo (opening : Memory) (limit : ℕ) (config : Config) (scripts : 
 
 -- AN ALLOCATION FAILED: the completion was notified of nothing, or of each result that the first client of such a rig
 -- had by then, once and in order
-abbrev pub ToldWanting : Memory → ℕ → Config → List (List Job) → Turning → Option Told → Option Told → Type 0
+abbrev pub ToldWanting : Memory → ℕ → Config → List Script → Turning → Option Told → Option Told → Type 0
 ToldWanting opening limit config scripts turning before after =
     (after ≡ before)
     ⊎ ((last : State) × CameTo opening limit config scripts turning last

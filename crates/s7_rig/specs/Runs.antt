@@ -5,12 +5,12 @@ use Rattle.s7_schedule.specs.Drawing.{seeded}
 use Rattle.s7_memory.specs.Pipes.{empty_pipes}
 use Rattle.s7_area.specs.declared.guard.Guard.{Guard}
 use Rattle.s7_dialogue.specs.declared.config.Config.{Config}
-use Rattle.s7_dialogue.specs.declared.job.Job.{Job}
 use Rattle.s7_client.specs.Polling as client
 use Rattle.s7_session.specs.LinkRun as session
 use Rattle.s7_session.specs.LinkState.{first_link}
 use Rattle.s7_session.specs.Stands.{number_of}
 use Rattle.s7_rig.specs.Numbers.{count_from}
+use Rattle.s7_rig.specs.Scripts.{Script}
 use Rattle.s7_rig.specs.State.{Post, State, are_finished}
 use Rattle.s7_rig.specs.Turns.{IsTurnOf}
 
@@ -54,9 +54,10 @@ moment = 1704067200000
 
 -- a client that has done nothing, with all its jobs still to start, and a session that has taken nothing, to areas with
 -- this guard
-pub record IsFreshPost (guard : Option Guard) (config : Config) (link : ℕ) (jobs : List Job) (p : Post) : Type 0 where
+pub record IsFreshPost (guard : Option Guard) (config : Config) (link : ℕ) (script : Script) (p : Post) : Type 0 where
   pub link_is : p.link ≡ link
-  pub rest : p.rest ≡ jobs
+  pub rest : p.rest ≡ script.jobs
+  pub halts : p.halts ≡ script.halts
   pub client : client.IsFresh p.client config
   pub session : session.IsFresh (first_link guard) p.session
   pub number : number_of p.session ≡ link
@@ -65,13 +66,13 @@ pub record IsFreshPost (guard : Option Guard) (config : Config) (link : ℕ) (jo
   pub places : p.places ≡ []
   pub noted : p.noted ≡ None
 
--- such a client for each list of jobs, with links numbered in order from this one
-unfoldable pub AreFresh : Option Guard → Config → ℕ → List (List Job) → List Post → Type 0
+-- such a client for each script, with links numbered in order from this one
+unfoldable pub AreFresh : Option Guard → Config → ℕ → List Script → List Post → Type 0
 AreFresh guard config link [] [] = Unit {0}
 AreFresh guard config link [] (p ∷ posts) = ⊥
-AreFresh guard config link (jobs ∷ scripts) [] = ⊥
-AreFresh guard config link (jobs ∷ scripts) (p ∷ posts) =
-    IsFreshPost guard config link jobs p × AreFresh guard config (link + 1) scripts posts
+AreFresh guard config link (script ∷ scripts) [] = ⊥
+AreFresh guard config link (script ∷ scripts) (p ∷ posts) =
+    IsFreshPost guard config link script p × AreFresh guard config (link + 1) scripts posts
 
 -- A WHOLE RUN: the stated turns, then the seeded ones, then rounds
 pub record IsRun (turns : List ℕ) (seed steps : ℕ) (old new : State) : Type 0 where

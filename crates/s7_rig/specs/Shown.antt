@@ -5,14 +5,20 @@ use Rattle.s7_plant.specs.Books.{BookTold, book_told}
 use Rattle.s7_rig.specs.declared.end.RigClient.{RigClient}
 use Rattle.s7_rig.specs.declared.end.RigEnd.{RigEnd}
 use Rattle.s7_rig.specs.declared.rig.Rig.{Rig}
+use Rattle.s7_rig.specs.declared.script.ClientScript.{ClientScript}
 use Rattle.s7_rig.specs.declared.station.Station.{Station}
+use Rattle.s7_rig.specs.Scripts.{Script}
 use Rattle.s7_rig.specs.State.{Post, State}
+
+abbrev pub script_told : ClientScript → Script
+script_told s = record { jobs = s.jobs.items; halts = s.halts }
 
 -- a station as an element of the state
 abbrev pub post_of : Station → Post
 post_of s = record {
   link = s.link;
   rest = s.rest.items;
+  halts = s.halts;
   client = s.client;
   session = s.session;
   pipes = s.pipes;

@@ -15,6 +15,8 @@ pub record Post : Type 0 where
   pub link : ℕ
   -- the jobs that weren't started yet
   pub rest : List Job
+  -- the client halts: if a read of several items fails, only the last job is left
+  pub halts : Bool
   pub client : Connection
   pub session : Session
   -- the octets on their way in either direction

@@ -26,6 +26,7 @@ use Rattle.s7_session.specs.Stands.{IsTurn, closed_with, number_of}
 use Rattle.s7_session.specs.Books.{own, history_of, GoesOnBy}
 use Rattle.s7_rig.specs.Numbers.{count_from}
 use Rattle.s7_rig.specs.State.{Post, State}
+use Rattle.s7_rig.specs.Scripts.{left_behind}
 
 -- One of the pipes holds another number of octets. In a turn each pipe only fills or only empties, so this shows
 -- whether an octet was moved.
@@ -50,8 +51,10 @@ pub record StartsNothing (old new : Post) : Type 0 where
   pub same : new ≡ old
 
 -- A poll that ends a job adds the job's result, and the numbers of the link's entries that were noted since it began.
+-- A client that halts keeps only its last job if the job was a failed read of several items.
 abbrev pub with_polled : Polled → Post → Post
 with_polled (polled.Done told) p = record p {
+  rest = left_behind p.halts told p.rest;
   results = p.results ++ told ∷ [];
   places = p.places ++ unwrap_or p.noted [] ∷ [];
   noted = None;

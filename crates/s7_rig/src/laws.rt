@@ -1,4 +1,5 @@
 //! Laws of rigs.
+ghost use Rattle.s7_rig.specs.Followed.{RigsFollow};
 ghost use Rattle.s7_rig.specs.Formed.{RigsAreFormed};
 ghost use Rattle.s7_rig.specs.Jobs.{JobsAreSettled, JobsComeOff};
 ghost use Rattle.s7_rig.specs.Passwords.{PasswordsAreRead};
@@ -12,6 +13,13 @@ pub fn rigs_are_formed()
 {
     ends_have_form();
 }
+
+/// A law: however a rig ran, the results of each client are those of its script's jobs in order, and the numbers of its
+/// entries rise over all its jobs. After a failed read of several items, a client that halts has only the result of its
+/// last job.
+pub fn rigs_follow()
+    ensures { RigsFollow }
+{}
 
 /// A law: a session between two messages answers each question that a job of its client can ask by one message, the
 /// first that the client hasn't read, and the client takes it as an answer to that question. This holds whichever state

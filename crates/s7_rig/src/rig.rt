@@ -5,7 +5,7 @@ ghost use Rattle.s7_schedule.specs.Drawing.{seeded};
 ghost use Rattle.s7_header.specs.Negotiation.{most_pdu};
 ghost use Rattle.s7_plant.specs.Journals.{entries_of};
 ghost use Rattle.s7_plant.specs.State.{begins_with, state_of as plant_state};
-ghost use Rattle.s7_rig.specs.Shown.{state_of, end_told, state_told};
+ghost use Rattle.s7_rig.specs.Shown.{script_told, state_of, end_told, state_told};
 ghost use Rattle.s7_rig.specs.State.{are_finished};
 ghost use Rattle.s7_rig.specs.Stopped.{RoundsStop, RunStops, TurnsStop};
 ghost use Rattle.s7_rig.specs.Tells.{TellsFirst, TellsWanting};
@@ -13,10 +13,11 @@ ghost use Rattle.s7_rig.specs.Turns.{IsTurnOf};
 ghost use Rattle.s7_rig.specs.Runs.{Turns, actors_of, Rounds, most_rounds, AreFresh, IsRun};
 
 use crate::end::{RigClient, RigEnd};
+use crate::script::ClientScript;
 use crate::station::Station;
 use s7_area::Areas;
 use s7_block::Blocks;
-use s7_client::{Completion, Config, Job};
+use s7_client::{Completion, Config};
 use s7_outer::Memory;
 use s7_plant::{Book, MOST_BLOCKS, Tail};
 use s7_schedule::Draw;
@@ -33,13 +34,13 @@ pub struct Rig {
 }
 
 impl Rig {
-    /// A rig over these areas with a journal of this limit, from 1 to 262,144, and a client for each list of jobs. The
+    /// A rig over these areas with a journal of this limit, from 1 to 262,144, and a client for each script. The
     /// links are numbered from 1 in that order. Returns `Memory` if an allocation fails.
     pub fn new(
         alloc: Global,
         areas: Areas,
         limit: u64,
-        scripts: Vec<Vec<Job>>,
+        scripts: Vec<ClientScript>,
         config: Config,
     ) -> Result<Rig, Memory>
         requires some { 1 ≤ limit }
@@ -49,19 +50,19 @@ impl Rig {
         requires least_jobs { 1 ≤ config.jobs }
         requires most_jobs { config.jobs ≤ 8 }
         requires polls { 1 ≤ config.polls }
-        requires scripts { length scripts.items ≤ 1024 }
+        requires scripts { length scripts.items ≤ 1025 }
         ensures opening { IfOk result (λ rig. plant_state (state_of rig).book.opening ≡ begins_with areas) }
         ensures plant { IfOk result (λ rig. plant_state (state_of rig).book.plant ≡ begins_with areas) }
         ensures journal { IfOk result (λ rig. (state_of rig).book.journal ≡ entries_of [] limit) }
         ensures count { IfOk result (λ rig. length rig.stations.items ≡ length scripts.items) }
         ensures clients { IfOk result (λ rig.
-            AreFresh areas.guard config 1 (map (λ s. s.items) scripts.items) (state_of rig).posts) }
+            AreFresh areas.guard config 1 (map script_told scripts.items) (state_of rig).posts) }
     {
         let guard = areas.guard();
         let mut stations = Vec::with_capacity(alloc, scripts.len())?;
         let mut link = 1;
-        for jobs in scripts {
-            let station = Station::new(alloc, link, jobs, config, guard)?;
+        for script in scripts {
+            let station = Station::new(alloc, link, script, config, guard)?;
             stations.push_reserved(station);
             link += 1;
         }

@@ -15,6 +15,8 @@ pub struct Station {
     pub(crate) link: u32,
     /// The jobs that weren't started yet.
     pub(crate) rest: VecDeque<Job>,
+    /// Whether only the last of these jobs is left after a read of several items that failed.
+    pub(crate) halts: bool,
     pub(crate) client: Connection,
     pub(crate) session: Session,
     pub(crate) pipes: Pipes,

@@ -1,5 +1,5 @@
 //! The turns of a client and of the session that serves it.
-ghost use Rattle.std.specs.Prelude.{◌≡◌, ◌≢◌, ◌<◌, ◌≤◌, ◌⊎◌, ◌-◌, ◌++◌, ◌∷◌, [], length, vec_capacity, None, Some};
+ghost use Rattle.std.specs.Prelude.{◌≡◌, ◌≢◌, ◌<◌, ◌≤◌, ◌⊎◌, ◌-◌, ◌++◌, ◌∷◌, [], drop, length, vec_capacity, None, Some};
 ghost use Rattle.std.specs.Prelude.{false, is_some, option_map, unwrap_or, IfOk, OnOk, OnErr, IsSome};
 ghost use Rattle.s7_header.specs.Negotiation.{most_pdu};
 ghost use Rattle.s7_dialogue.specs.declared.config.Config.{Config};
@@ -8,13 +8,15 @@ ghost use Rattle.s7_plant.specs.Journals.{AreReady};
 ghost use Rattle.s7_session.specs.Stands.{closed_by};
 ghost use Rattle.s7_rig.specs.Numbers.{count_from};
 ghost use Rattle.s7_rig.specs.State.{is_finished};
-ghost use Rattle.s7_rig.specs.Shown.{post_of};
+ghost use Rattle.s7_rig.specs.Scripts.{left_behind, reads_many};
+ghost use Rattle.s7_rig.specs.Shown.{post_of, script_told};
 ghost use Rattle.s7_rig.specs.Tells.{Tells};
 ghost use Rattle.s7_rig.specs.Turns.{StartsNext, StartsNothing, PollsOnce, IsClientTurn, IsSessionTurn};
 ghost use Rattle.s7_rig.specs.Runs.{IsFreshPost};
 
 use crate::links::{count_held, poll_over, turn_over};
 use crate::places::Places;
+use crate::script::ClientScript;
 use crate::station::Station;
 use s7_area::Guard;
 use s7_client::{Completion, Config, Connection, Job, JobResult, Polled, tell};
@@ -37,7 +39,7 @@ impl Station {
     pub(crate) fn new(
         alloc: Global,
         link: u32,
-        jobs: Vec<Job>,
+        script: ClientScript,
         config: Config,
         guard: Option<Guard>,
     ) -> Result<Station, Memory>
@@ -46,12 +48,14 @@ impl Station {
         requires least_jobs { 1 ≤ config.jobs }
         requires most_jobs { config.jobs ≤ 8 }
         requires polls { 1 ≤ config.polls }
-        ensures { IfOk result (λ station. IsFreshPost guard config link jobs.items (post_of station)) }
+        ensures { IfOk result (λ station. IsFreshPost guard config link (script_told script) (post_of station)) }
     {
+        let ClientScript { jobs, halts } = script;
         let count = jobs.len();
         Ok(Station {
             link,
             rest: VecDeque::from_vec(jobs),
+            halts,
             client: Connection::new(alloc, config)?,
             session: Session::new(alloc, link, guard)?,
             pipes: Pipes::new(alloc, ROOM, MOMENT)?,
@@ -124,6 +128,7 @@ impl Station {
         let after = count_held(&self.pipes);
         match polled {
             Polled::Done(told) => {
+                leave(self.halts, &told, &mut self.rest);
                 keep(told, &mut self.results, &mut self.places, &mut self.noted);
                 true
             }
@@ -175,6 +180,43 @@ fn was_wanting(turn: Turn) -> bool
     ensures { result ≡ false → closed_by turn ≢ Some Outcome.Memory }
 {
     turn == Turn::Closed(Outcome::Memory)
+}
+
+/// Removes the jobs that a client doesn't start any more after this result.
+fn leave(halts: bool, told: &JobResult, rest: &mut VecDeque<Job>)
+    ensures left { rest.new.items ≡ left_behind halts told.now rest.old.items }
+    ensures fewer { length rest.new.items ≤ length rest.old.items }
+{
+    if halts && told.code != 0 && reads_many(&told.job) {
+        keep_last(rest);
+    }
+}
+
+/// Removes all jobs but the last.
+fn keep_last(rest: &mut VecDeque<Job>)
+    ensures left { rest.new.items ≡ drop (length rest.old.items - 1) rest.old.items }
+    ensures fewer { length rest.new.items ≤ length rest.old.items }
+{
+    while rest.len() > 1 {
+        pass_over(rest);
+    }
+}
+
+/// Removes the first job.
+fn pass_over(rest: &mut VecDeque<Job>)
+    ensures { rest.new.items ≡ drop 1 rest.old.items }
+{
+    rest.pop_front();
+}
+
+/// Whether a job reads several items.
+fn reads_many(job: &Job) -> bool
+    ensures { result ≡ reads_many job.now }
+{
+    match job {
+        Job::ReadMany { .. } => true,
+        _ => false,
+    }
 }
 
 /// Keeps the result of the job that is done, and the numbers of its entries.

@@ -5,13 +5,14 @@ use Rattle.std.specs.List.{AllByRecursion}
 use Rattle.s7_outer.specs.FilesShown.{FilesShown}
 use Rattle.s7_dialogue.specs.declared.job.Job.{Job}
 use Rattle.s7_dialogue.specs.declared.job.Job.TheVariants as job
-use Rattle.s7_rig.specs.Scripts.{IsNoConnect, NoneConnects, ConnectsFirst}
+use Rattle.s7_rig.specs.Scripts.{BeginsWell, IsNoConnect, NoneConnects}
 use Rattle.s7_script.specs.Laws.{KeepsLink, ScriptsKeepLinks}
 use Rattle.s7_script.specs.Tagged.{script_by}
 use Rattle.s7_script.specs.declared.scripts.script_fault.ScriptFault.{ScriptFault}
 use Rattle.s7_script.specs.declared.scripts.script_list.ScriptLine.{ScriptLine}
 use Rattle.s7_symbol.specs.declared.tag.Tag.{Tag}
-use Rattle.s7_tool_main.specs.Run.{job_in, jobs_of}
+use Rattle.s7_tool_main.specs.Rigging.{client_script}
+use Rattle.s7_tool_main.specs.Run.{job_in}
 use Rattle.s7_tool_main.specs.Scripts.{ReadsScripts}
 use Rattle.s7_tool_main.proofs.TagLemmas.{named_by}
 
@@ -26,7 +27,7 @@ none_connects (l ∷ lines) h = (keeps_only l.job h.0, none_connects lines h.1)
 
 pub connect_first : ScriptsKeepLinks → (known : Option (List Tag)) (paths : List (List ℕ)) (files : FilesShown)
     (scripts : List (List ScriptLine)) → ReadsScripts known paths files scripts
-    → AllByRecursion ConnectsFirst (map jobs_of scripts)
+    → AllByRecursion BeginsWell (map client_script scripts)
 unfolding ReadsScripts
 connect_first law known [] files [] h = tt
 connect_first law known [] files (lines ∷ scripts) h = absurd h

@@ -1,6 +1,6 @@
 -- Lines that are drawn: those of a list of numbers, and those from x to x.
 use Rattle.std.proofs.Common.{◌≡◌, ◌∙◌, ◌+◌, ◌-◌, ◌*◌, ◌/◌, ◌%◌, ◌≤◌, ℕ, zero, suc, Bool, true, false, cond, refl, sym, ap}
-use Rattle.std.proofs.Common.{arith, subst, List, [], ◌∷◌, ◌++◌, append_assoc, length, take, drop, replicate}
+use Rattle.std.proofs.Common.{arith, subst, List, [], ◌∷◌, ◌++◌, append_assoc, length, map, take, drop, replicate}
 use Rattle.std.specs.Prelude.{◌==◌, slice_index}
 use Rattle.std.specs.List.{AllByRecursion}
 use Rattle.std.proofs.lemmas.Bool.{ne_eqb}
@@ -9,7 +9,7 @@ use Rattle.s7_schedule.specs.Drawing.{drawn_from, first_x, next_x}
 use Rattle.s7_item.specs.declared.item.Item.{Item}
 use Rattle.s7_dialogue.specs.declared.job.Job.{Job}
 use Rattle.s7_dialogue.specs.declared.job.Job.TheVariants as job
-use Rattle.s7_rig.specs.Scripts.{ConnectsFirst, IsNoConnect, NoneConnects}
+use Rattle.s7_rig.specs.Scripts.{BeginsWell, IsNoConnect, NoneConnects, goes_on}
 use Rattle.s7_tool_main.specs.Drawn.{block_item, drawn, flags_item, kind_of, line_by, lines_of, made_scripts}
 use Rattle.s7_tool_main.specs.Drawn.{script_of, script_with}
 use Rattle.s7_tool_main.specs.Drawing.{after_line, after_lines, line_at, lines_at, script_at, scripts_at, x_after}
@@ -201,10 +201,12 @@ none_connects (suc n) x =
     (1 + slice_index numbers 3 % 1000) (slice_index numbers 4 % 256) in
     (first, none_connects n (after_line x))
 
-connect_first : (n x : ℕ) → AllByRecursion ConnectsFirst (scripts_at n x)
+connect_first : (n x : ℕ) → AllByRecursion BeginsWell (map goes_on (scripts_at n x))
 unfolding scripts_at
 connect_first zero x = tt
 connect_first (suc n) x = (none_connects 200 x, connect_first n (after_lines 200 x))
 
-pub made_connect : (seed : ℕ) → AllByRecursion ConnectsFirst (made_scripts seed)
-made_connect seed = subst (AllByRecursion ConnectsFirst) (scripts_made seed) (connect_first 4 (seed % 2147483648))
+pub made_connect : (seed : ℕ) → AllByRecursion BeginsWell (map goes_on (made_scripts seed))
+made_connect seed =
+    subst (λ scripts. AllByRecursion BeginsWell (map goes_on scripts)) (scripts_made seed)
+    (connect_first 4 (seed % 2147483648))

@@ -9,9 +9,9 @@ use Rattle.s7_plant.specs.Histories.{replay}
 use Rattle.s7_plant.specs.Journals.{asks_of}
 use Rattle.s7_plant.specs.State.{State, state_of}
 use Rattle.s7_dialogue.specs.declared.config.Config.{Config}
-use Rattle.s7_dialogue.specs.declared.job.Job.{Job}
 use Rattle.s7_rig.proofs.PlantLemmas.{names_changed}
 use Rattle.s7_rig.specs.Rigs.{RigRan, Turning}
+use Rattle.s7_rig.specs.Scripts.{Script}
 use Rattle.s7_rig.specs.Shown.{EndTold}
 
 abbrev names : Memory → List AreaKey
@@ -22,7 +22,7 @@ names_replayed s [] = refl
 names_replayed s (ask ∷ asked) = names_replayed (after s ask) asked ∙ names_changed s ask.right ask.request
 
 -- a rig leaves the areas the names that they had
-pub rig_names : (opening : Memory) (limit : ℕ) (config : Config) (scripts : List (List Job)) (turning : Turning)
+pub rig_names : (opening : Memory) (limit : ℕ) (config : Config) (scripts : List Script) (turning : Turning)
     (end : EndTold) → RigRan opening limit config scripts turning end
     → keys_of end.book.plant.areas.areas ≡ keys_of opening.areas
 rig_names opening limit config scripts turning end ran =

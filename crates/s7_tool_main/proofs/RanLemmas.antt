@@ -6,10 +6,10 @@ use Rattle.s7_outer.specs.FilesShown.{FilesShown}
 use Rattle.s7_outer.specs.OutShown.{OutShown}
 use Rattle.s7_area.specs.Memory.{Memory}
 use Rattle.s7_dialogue.specs.declared.config.Config.{Config}
-use Rattle.s7_dialogue.specs.declared.job.Job.{Job}
 use Rattle.s7_rig.specs.declared.end.RigEnd.{RigEnd}
 use Rattle.s7_rig.specs.Formed.{AreFormed, IsFormed, RigsAreFormed}
 use Rattle.s7_rig.specs.Rigs.{RigRan, Turning}
+use Rattle.s7_rig.specs.Scripts.{Script}
 use Rattle.s7_rig.specs.Shown.{EndTold, end_told}
 use Rattle.s7_script.specs.Laws.{EndsPrint}
 use Rattle.s7_script.specs.Loading.{HasFailed, Loads, NamedGives, PathFailed}
@@ -25,21 +25,19 @@ use Rattle.s7_tool_main.specs.declared.ended.Ended.{Ended}
 use Rattle.s7_tool_main.specs.declared.ended.Ended.TheVariants as ended
 use Rattle.s7_tool_main.specs.declared.load.LoadFault.{LoadFault}
 use Rattle.s7_tool_main.specs.declared.load.LoadFault.TheVariants as fault
-use Rattle.s7_tool_main.specs.Drawn.{made_scripts}
-use Rattle.s7_tool_main.specs.Gen.{GenEnds, made_areas, made_config, made_turning}
+use Rattle.s7_tool_main.specs.Gen.{GenEnds, client_scripts, made_areas, made_config, made_turning}
 use Rattle.s7_tool_main.specs.GenText.{are_made_good, made_text}
 use Rattle.s7_tool_main.specs.Loading.{ReadsTags, StopsAtTags, refusal_line, script_reader}
 use Rattle.s7_tool_main.specs.Report.{Printed, PrintsText, TellsFault, script_line, tags_line}
 use Rattle.s7_tool_main.specs.RigText.{ArePrintable, are_clients_good, rig_text}
 use Rattle.s7_tool_main.specs.Rigging.{ComesTo, FailsOther, IsPathOf, RanJobs, RanRig, RefusesAreas, RefusesOneScript}
-use Rattle.s7_tool_main.specs.Rigging.{RigEnds, areas_refusal_line}
-use Rattle.s7_tool_main.specs.Run.{jobs_of}
+use Rattle.s7_tool_main.specs.Rigging.{RigEnds, areas_refusal_line, client_script}
 use Rattle.s7_tool_main.specs.Scripts.{ReadsScripts, StopsAt}
 use Rattle.s7_tool_main.proofs.TagLemmas.{fails_tags, refuses_tags, refuses_text, with_tags}
 
 -- all its results can be printed
 pub rig_prints : EndsPrint → RigsAreFormed → (opening : Memory) (limit : ℕ) (config : Config)
-    (scripts : List (List Job)) (turning : Turning) (end : EndTold)
+    (scripts : List Script) (turning : Turning) (end : EndTold)
     → RigRan opening limit config scripts turning end → All ArePrintable end.clients
 rig_prints prints law opening limit config scripts turning end ran =
     All-weaker AreFormed ArePrintable
@@ -163,7 +161,7 @@ module _ (told : RigTold) (old new : FilesShown) (out out' : OutShown) where
 
       -- a rig ran
       module _ (scripts : List (List ScriptLine)) (read : ReadsScripts known told.scripts old scripts) (rig : RigEnd)
-          (ran : RanJobs told m (map jobs_of scripts) (end_told rig)) where
+          (ran : RanJobs told m (map client_script scripts) (end_told rig)) where
         abbrev PrintsRig : Ended → Type 0
         PrintsRig how =
             PrintsText (rig_text scripts (end_told rig)) (are_clients_good scripts (end_told rig).clients) out out' how
@@ -192,7 +190,7 @@ module _ (told : RigTold) (old new : FilesShown) (out out' : OutShown) where
 -- the rig of a seed ran
 module _ (seed : ℕ) (out out' : OutShown) (rig : RigEnd) where
   abbrev RanSeed : Type 0
-  RanSeed = RigRan made_areas 65536 made_config (made_scripts seed) (made_turning seed) (end_told rig)
+  RanSeed = RigRan made_areas 65536 made_config (client_scripts seed) (made_turning seed) (end_told rig)
 
   abbrev PrintsMade : Ended → Type 0
   PrintsMade how = PrintsText (made_text (end_told rig)) (are_made_good (end_told rig).clients) out out' how

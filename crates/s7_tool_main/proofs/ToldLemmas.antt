@@ -4,7 +4,6 @@ use Rattle.std.specs.Result.{OnErr}
 use Rattle.std.proofs.lemmas.Iterator.Adapters.{option_map_id}
 use Rattle.s7_area.specs.Memory.{Memory}
 use Rattle.s7_dialogue.specs.declared.config.Config.{Config}
-use Rattle.s7_dialogue.specs.declared.job.Job.{Job}
 use Rattle.s7_dialogue.specs.declared.job.JobResult.{JobResult}
 use Rattle.s7_outer.specs.FilesShown.{FilesShown}
 use Rattle.s7_outer.specs.OutShown.{OutShown}
@@ -15,6 +14,7 @@ use Rattle.s7_symbol.specs.declared.tag.Tag.{Tag}
 use Rattle.s7_args.specs.Tool.{RigTold, ToolTold, gen, partner, rig, run}
 use Rattle.s7_client.specs.Completions.{Told, told_of_result, told_of_results}
 use Rattle.s7_rig.specs.Rigs.{ToldWanting, Turning}
+use Rattle.s7_rig.specs.Scripts.{Script}
 use Rattle.s7_rig.specs.Tells.{Tells}
 use Rattle.s7_rig.proofs.TellsLemmas.{tells_none}
 use Rattle.s7_tool_main.specs.declared.ended.Ended.{Ended}
@@ -22,8 +22,7 @@ use Rattle.s7_tool_main.specs.declared.ended.Ended.TheVariants as ended
 use Rattle.s7_tool_main.specs.End.{HeardWanting}
 use Rattle.s7_tool_main.specs.Loading.{ReadsTags}
 use Rattle.s7_tool_main.specs.Report.{PrintsText}
-use Rattle.s7_tool_main.specs.Rigging.{JobsWanting, RigWanting}
-use Rattle.s7_tool_main.specs.Run.{jobs_of}
+use Rattle.s7_tool_main.specs.Rigging.{JobsWanting, RigWanting, client_script}
 use Rattle.s7_tool_main.specs.Scripts.{ReadsScripts}
 
 -- ---- a run
@@ -61,7 +60,7 @@ not_wanting text good old new how printed is = subst (λ h. PrintsText text good
 
 -- a rig of the same, by other words
 pub wanting_same : {T E : Type 0} (r : Result T E) (areas areas' : Memory) (limit : ℕ) (config config' : Config)
-    (jobs jobs' : List (List Job)) (turns turns' : List ℕ) (seed steps : ℕ) (x y : Option Told) → areas ≡ areas'
+    (jobs jobs' : List Script) (turns turns' : List ℕ) (seed steps : ℕ) (x y : Option Told) → areas ≡ areas'
     → config ≡ config' → jobs ≡ jobs' → turns ≡ turns'
     → OnErr r (ToldWanting areas limit config jobs (record { turns = turns; seed = seed; steps = steps }) x y)
     → OnErr r (ToldWanting areas' limit config' jobs' (record { turns = turns'; seed = seed; steps = steps }) x y)
@@ -76,7 +75,7 @@ wanting_same r areas areas' limit config config' jobs jobs' turns turns' seed st
 pub rig_wanting : (told : RigTold) (files : FilesShown) (known : Option (List Tag)) (opening : Memory)
     (scripts : List (List ScriptLine)) (x y : Option Told) → ReadsTags told.tags files (λ found. found ≡ known)
     → NamedGives (naming told.areas) files (Ok opening) → ReadsScripts known told.scripts files scripts
-    → JobsWanting told opening (map jobs_of scripts) x y → RigWanting told files x y
+    → JobsWanting told opening (map client_script scripts) x y → RigWanting told files x y
 rig_wanting told files known opening scripts x y tagged opened read wanting = inr (record {
   known = known;
   tagged = tagged;

@@ -13,8 +13,7 @@ use Rattle.s7_args.specs.Tool.{ToolTold, gen, partner, rig, run}
 use Rattle.s7_tool_main.specs.declared.ended.Ended.{Ended}
 use Rattle.s7_tool_main.specs.declared.ended.RunEnd.{RunEnd}
 use Rattle.s7_tool_main.specs.declared.ended.ToolEnd.{ToolEnd}
-use Rattle.s7_tool_main.specs.Drawn.{made_scripts}
-use Rattle.s7_tool_main.specs.Gen.{RanGen, made_areas, made_config, made_turning}
+use Rattle.s7_tool_main.specs.Gen.{RanGen, client_scripts, made_areas, made_config, made_turning}
 use Rattle.s7_tool_main.specs.Partners.{CallFailsFor, FailsOne, PartnersLack, RanPartners, RefusesOne}
 use Rattle.s7_tool_main.specs.Ran.{CallFails, FailsRun, RanScript, RefusesRun, RunLacksMemory}
 use Rattle.s7_tool_main.specs.Report.{Printed, memory_line}
@@ -123,5 +122,5 @@ HeardWanting None files before after = after ≡ before
 HeardWanting (Some (run told)) files before after = after ≡ before
 HeardWanting (Some (rig told)) files before after = RigWanting told files before after
 HeardWanting (Some (gen seed)) files before after =
-    ToldWanting made_areas 65536 made_config (made_scripts seed) (made_turning seed) before after
+    ToldWanting made_areas 65536 made_config (client_scripts seed) (made_turning seed) before after
 HeardWanting (Some (partner told)) files before after = after ≡ before

@@ -8,6 +8,7 @@ use Rattle.s7_area.specs.Memory.{Memory}
 use Rattle.s7_dialogue.specs.declared.config.Config.{Config}
 use Rattle.s7_rig.specs.declared.end.RigEnd.{RigEnd}
 use Rattle.s7_rig.specs.Rigs.{RigRan, Turning}
+use Rattle.s7_rig.specs.Scripts.{Script, goes_on}
 use Rattle.s7_rig.specs.Shown.{EndTold, end_told}
 use Rattle.s7_tool_main.specs.declared.ended.Ended.{Ended}
 use Rattle.s7_tool_main.specs.declared.ended.Ended.TheVariants as ended
@@ -42,6 +43,10 @@ made_areas = record { areas = (flags_key, blank_octets 256) ∷ map block_of (1 
 
 -- ---- the rig
 
+-- the scripts of the clients, which do all their jobs, whether one fails or not
+abbrev pub client_scripts : ℕ → List Script
+client_scripts seed = map goes_on (made_scripts seed)
+
 -- the configuration of its clients is that of `rig`, with a PDU of 240 and four parallel jobs
 abbrev pub made_config : Config
 made_config = rig_config 240 4
@@ -52,7 +57,7 @@ made_turning seed = record { turns = []; seed = seed; steps = 2000 }
 
 -- A RIG RAN over the areas and the scripts of a seed, with a journal of 65,536 entries, and its text was printed
 pub record RanGen (seed : ℕ) (out out' : OutShown) (end : EndTold) (how : Ended) : Type 0 where
-  pub ran : RigRan made_areas 65536 made_config (made_scripts seed) (made_turning seed) end
+  pub ran : RigRan made_areas 65536 made_config (client_scripts seed) (made_turning seed) end
   pub printed : PrintsText (made_text end) (are_made_good end.clients) out out' how
 
 -- HOW `gen` ENDED, by the output before and after, and the rig if one ran; it uses no file and no dial

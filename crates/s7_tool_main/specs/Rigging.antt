@@ -4,10 +4,10 @@ use Rattle.s7_outer.specs.FilesShown.{FilesShown}
 use Rattle.s7_outer.specs.OutShown.{OutShown}
 use Rattle.s7_area.specs.Memory.{Memory}
 use Rattle.s7_client.specs.Completions.{Told}
-use Rattle.s7_dialogue.specs.declared.job.Job.{Job}
 use Rattle.s7_rig.specs.declared.end.RigEnd.{RigEnd}
 use Rattle.s7_rig.specs.Shown.{EndTold, end_told}
 use Rattle.s7_rig.specs.Rigs.{RigRan, ToldWanting}
+use Rattle.s7_rig.specs.Scripts.{Script, goes_on}
 use Rattle.s7_script.specs.Naming.{Named, naming, path, block, faulty}
 use Rattle.s7_script.specs.Loading.{NamedGives}
 use Rattle.s7_script.specs.declared.areas.load.LoadFault.{LoadFault}
@@ -80,14 +80,19 @@ FailsOneFile told old new printed =
 
 -- ---- the rig
 
--- a rig ran over these areas, with these jobs of each client, as the words ask
-abbrev pub RanJobs : RigTold → Memory → List (List Job) → EndTold → Type 0
-RanJobs told opening jobs end = RigRan opening told.journal (rig_config told.pdu told.jobs) jobs (turning_of told) end
+-- the client of a script does all its jobs, whether one fails or not
+abbrev pub client_script : List ScriptLine → Script
+client_script lines = goes_on (jobs_of lines)
+
+-- a rig ran over these areas, with a client for each of these scripts, as the words ask
+abbrev pub RanJobs : RigTold → Memory → List Script → EndTold → Type 0
+RanJobs told opening scripts end =
+    RigRan opening told.journal (rig_config told.pdu told.jobs) scripts (turning_of told) end
 
 -- memory ran out for such a rig
-abbrev pub JobsWanting : RigTold → Memory → List (List Job) → Option Told → Option Told → Type 0
-JobsWanting told opening jobs before after =
-    ToldWanting opening told.journal (rig_config told.pdu told.jobs) jobs (turning_of told) before after
+abbrev pub JobsWanting : RigTold → Memory → List Script → Option Told → Option Told → Type 0
+JobsWanting told opening scripts before after =
+    ToldWanting opening told.journal (rig_config told.pdu told.jobs) scripts (turning_of told) before after
 
 -- A RIG RAN over the areas and the scripts that the words name, with the tags of the named file; all of them are those
 -- of the files if the files show their octets; and its text was printed
@@ -99,7 +104,7 @@ pub record RanRig (told : RigTold) (files : FilesShown) (out out' : OutShown) (e
   pub opened : NamedGives (naming told.areas) files (Ok opening)
   pub scripts : List (List ScriptLine)
   pub read : ReadsScripts known told.scripts files scripts
-  pub ran : RanJobs told opening (map jobs_of scripts) end
+  pub ran : RanJobs told opening (map client_script scripts) end
   pub printed : PrintsText (rig_text scripts end) (are_clients_good scripts end.clients) out out' how
 
 -- HOW `rig` ENDED, by the files and the output before and after, and the rig if one ran
@@ -125,7 +130,7 @@ pub record BreaksOffRig (told : RigTold) (files : FilesShown) (before after : Op
   pub opened : NamedGives (naming told.areas) files (Ok opening)
   pub scripts : List (List ScriptLine)
   pub read : ReadsScripts known told.scripts files scripts
-  pub wanting : JobsWanting told opening (map jobs_of scripts) before after
+  pub wanting : JobsWanting told opening (map client_script scripts) before after
 
 -- IF MEMORY RAN OUT, the completion was notified of nothing, or of what `BreaksOffRig` says for a rig that was begun.
 abbrev pub RigWanting : RigTold → FilesShown → Option Told → Option Told → Type 0

@@ -2,15 +2,15 @@
 ghost use Rattle.std.specs.Prelude.{◌≡◌, ◌≢◌, ◌≤◌, ◌<◌, ◌*◌, ◌+◌, ◌∷◌, ◌++◌, [], All, IfOk, map, vec_len};
 ghost use Rattle.std.specs.Prelude.{OnErr, is_some, option_map};
 ghost use Rattle.std.specs.List.{AllByRecursion};
-ghost use Rattle.s7_rig.specs.Scripts.{ConnectsFirst};
+ghost use Rattle.s7_rig.specs.Scripts.{BeginsWell};
 ghost use Rattle.s7_client.specs.Completions.{told_of_results};
-ghost use Rattle.s7_rig.specs.Shown.{end_told, first_results};
+ghost use Rattle.s7_rig.specs.Shown.{end_told, first_results, script_told};
 ghost use Rattle.s7_args.specs.Shown.{rig_told_of};
 ghost use Rattle.s7_tool_main.specs.Asked.{rig_config};
 ghost use Rattle.s7_tool_main.specs.End.{results_in_rig};
 ghost use Rattle.s7_tool_main.specs.Loading.{KeepsPaths};
 ghost use Rattle.s7_tool_main.specs.RigText.{ArePrintable, are_clients_good, heads_of, rig_text};
-ghost use Rattle.s7_tool_main.specs.Rigging.{JobsWanting, RanJobs, RigEnds, RigWanting};
+ghost use Rattle.s7_tool_main.specs.Rigging.{JobsWanting, RanJobs, RigEnds, RigWanting, client_script};
 ghost use Rattle.s7_tool_main.specs.Run.{jobs_of};
 
 use crate::ended::Ended;
@@ -22,7 +22,7 @@ use s7_area::Areas;
 use s7_args::RigWords;
 use s7_client::{Completion, Config, Job};
 use s7_outer::{Files, Memory, Out};
-use s7_rig::{RigEnd, Schedule, rigs_are_formed, run_rig};
+use s7_rig::{ClientScript, RigEnd, Schedule, rigs_are_formed, run_rig};
 use s7_script::{Script, ends_print, load_areas, scripts_keep_links};
 use std::alloc::{AllocError, Global};
 
@@ -90,41 +90,41 @@ fn run_scripts<C: Completion>(
     done: &mut Option<C>,
 ) -> Result<Rigged, Memory>
     requires len { vec_len scripts ≡ vec_len words.now.scripts }
-    requires connects { AllByRecursion ConnectsFirst (map jobs_of scripts.items) }
+    requires connects { AllByRecursion BeginsWell (map client_script scripts.items) }
     ensures ran { IfOk result (λ r.
-        RanJobs (rig_told_of words.now) areas (map jobs_of scripts.items) (end_told r.end)) }
+        RanJobs (rig_told_of words.now) areas (map client_script scripts.items) (end_told r.end)) }
     ensures text { IfOk result (λ r. r.text.items ≡ rig_text scripts.items (end_told r.end)) }
     ensures good { IfOk result (λ r. r.is_good ≡ are_clients_good scripts.items (end_told r.end).clients) }
     ensures told { IfOk result (λ r. option_map C.told done.new
         ≡ option_map (λ t. told_of_results t (first_results (end_told r.end))) (option_map C.told done.old)) }
-    ensures told_wanting { OnErr result (JobsWanting (rig_told_of words.now) areas (map jobs_of scripts.items)
+    ensures told_wanting { OnErr result (JobsWanting (rig_told_of words.now) areas (map client_script scripts.items)
         (option_map C.told done.old) (option_map C.told done.new)) }
     ensures handed { is_some done.new ≡ is_some done.old }
 {
     let heads = all_heads(alloc, scripts.as_slice())?;
-    let jobs = all_jobs(alloc, scripts)?;
-    let end = run_jobs(alloc, words, areas, jobs, done)?;
+    let clients = client_scripts(alloc, scripts)?;
+    let end = run_clients(alloc, words, areas, clients, done)?;
     let text = rig_text(alloc, heads.as_slice(), &end)?;
     let is_good = are_good(heads.as_slice(), end.clients.as_slice());
     Ok(Rigged { end, text, is_good })
 }
 
-/// Runs these jobs on these areas.
-fn run_jobs<C: Completion>(
+/// Runs a client for each of these scripts on these areas.
+fn run_clients<C: Completion>(
     alloc: Global,
     words: &RigWords<'_>,
     areas: Areas,
-    jobs: Vec<Vec<Job>>,
+    scripts: Vec<ClientScript>,
     done: &mut Option<C>,
 ) -> Result<RigEnd, Memory>
-    requires len { vec_len jobs ≡ vec_len words.now.scripts }
-    requires connects { AllByRecursion ConnectsFirst (map (λ s. s.items) jobs.items) }
+    requires len { vec_len scripts ≡ vec_len words.now.scripts }
+    requires connects { AllByRecursion BeginsWell (map script_told scripts.items) }
     ensures ran { IfOk result (λ end.
-        RanJobs (rig_told_of words.now) areas (map (λ s. s.items) jobs.items) (end_told end)) }
+        RanJobs (rig_told_of words.now) areas (map script_told scripts.items) (end_told end)) }
     ensures printable { IfOk result (λ end. All ArePrintable (end_told end).clients) }
     ensures told { IfOk result (λ end. option_map C.told done.new
         ≡ option_map (λ t. told_of_results t (first_results (end_told end))) (option_map C.told done.old)) }
-    ensures told_wanting { OnErr result (JobsWanting (rig_told_of words.now) areas (map (λ s. s.items) jobs.items)
+    ensures told_wanting { OnErr result (JobsWanting (rig_told_of words.now) areas (map script_told scripts.items)
         (option_map C.told done.old) (option_map C.told done.new)) }
     ensures handed { is_some done.new ≡ is_some done.old }
 {
@@ -136,7 +136,7 @@ fn run_jobs<C: Completion>(
         steps: words.steps,
     };
     let config = rig_config(words.pdu, words.jobs);
-    run_rig(alloc, areas, words.journal, jobs, config, schedule, done)
+    run_rig(alloc, areas, words.journal, scripts, config, schedule, done)
 }
 
 /// The configuration of a rig's clients.
@@ -174,14 +174,15 @@ fn heads_of(alloc: Global, script: &Script) -> Result<Vec<Head>, AllocError>
     Ok(heads)
 }
 
-/// The jobs of each client.
-fn all_jobs(alloc: Global, scripts: Vec<Script>) -> Result<Vec<Vec<Job>>, AllocError>
-    ensures jobs { IfOk result (λ all. map (λ v. v.items) all.items ≡ map jobs_of scripts.items) }
+/// The script of each client.
+fn client_scripts(alloc: Global, scripts: Vec<Script>) -> Result<Vec<ClientScript>, AllocError>
+    ensures scripts { IfOk result (λ all. map script_told all.items ≡ map client_script scripts.items) }
     ensures len { IfOk result (λ all. vec_len all ≡ vec_len scripts) }
 {
     let mut all = Vec::new(alloc);
     for script in scripts {
-        all.push(jobs_of(alloc, script)?)?;
+        let jobs = jobs_of(alloc, script)?;
+        all.push(ClientScript { jobs, halts: false })?;
     }
     Ok(all)
 }

@@ -5,7 +5,7 @@ use Rattle.s7_rig.proofs.station.Station.poll_once.Goals as goal
 
 pub returns-in-Done : goal.returns-in-Done
 returns-in-Done c =
-    polls_done (post_of c.args.self.now) _ _ c.in-Done.told _ _ _ c.in-Done.ensures c.count_held-after.ensures.fits c.keep.ensures.results c.keep.ensures.places c.keep.ensures.noted
+    polls_done (post_of c.args.self.now) _ _ c.in-Done.told _ _ _ _ c.in-Done.ensures c.count_held-after.ensures.fits c.leave.ensures.left c.keep.ensures.results c.keep.ensures.places c.keep.ensures.noted
 
 pub returns-in-Pending : goal.returns-in-Pending
 returns-in-Pending c =

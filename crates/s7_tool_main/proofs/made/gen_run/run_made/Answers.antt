@@ -3,7 +3,7 @@ use Rattle.std.specs.List.{AllByRecursion}
 use Rattle.std.specs.Map.{keys_of}
 use Rattle.std.proofs.lemmas.Result.{IfOk-weaker}
 use Rattle.s7_area.specs.Memory.{Memory}
-use Rattle.s7_rig.specs.Scripts.{ConnectsFirst}
+use Rattle.s7_rig.specs.Scripts.{BeginsWell}
 use Rattle.s7_rig.specs.Shown.{end_told}
 use Rattle.s7_rig.proofs.TellsLemmas.{any_err}
 use Rattle.s7_tool_main.proofs.DrawnLemmas.{made_connect}
@@ -13,7 +13,7 @@ use Rattle.s7_tool_main.proofs.made.gen_run.run_made.Goals as goal
 
 pub run_rig-requires-clause-connects : goal.run_rig-requires-clause-connects
 run_rig-requires-clause-connects g c =
-    subst (AllByRecursion ConnectsFirst) (sym c.in_ok-scripts.ensures.scripts) (made_connect c.args.seed)
+    subst (AllByRecursion BeginsWell) (sym c.in_ok-scripts.ensures.scripts) (made_connect c.args.seed)
 
 pub returns-clause-names : goal.returns-clause-names
 returns-clause-names g c =

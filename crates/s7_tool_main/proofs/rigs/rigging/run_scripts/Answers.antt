@@ -8,17 +8,17 @@ use Rattle.s7_tool_main.proofs.rigs.rigging.run_scripts.Goals as goal
 pub returns-in_err-heads-clause-told_wanting : goal.returns-in_err-heads-clause-told_wanting
 returns-in_err-heads-clause-told_wanting g c = any_err _ (inl refl)
 
-pub returns-in_err-jobs-clause-told_wanting : goal.returns-in_err-jobs-clause-told_wanting
-returns-in_err-jobs-clause-told_wanting g c = any_err _ (inl refl)
+pub returns-in_err-clients-clause-told_wanting : goal.returns-in_err-clients-clause-told_wanting
+returns-in_err-clients-clause-told_wanting g c = any_err _ (inl refl)
 
 pub returns-in_err-end-clause-told_wanting : goal.returns-in_err-end-clause-told_wanting
 returns-in_err-end-clause-told_wanting g c =
-    any_err _ (subst (λ jobs. JobsWanting (rig_told_of c.args.words.now) c.args.areas jobs
-    (option_map g.C.Completion.told c.args.done.now) (option_map g.C.Completion.told c.run_jobs.new.done))
-    c.in_ok-jobs.ensures.jobs c.in_err-end.ensures.told_wanting)
+    any_err _ (subst (λ scripts. JobsWanting (rig_told_of c.args.words.now) c.args.areas scripts
+    (option_map g.C.Completion.told c.args.done.now) (option_map g.C.Completion.told c.run_clients.new.done))
+    c.in_ok-clients.ensures.scripts c.in_err-end.ensures.told_wanting)
 
 pub returns-in_err-text-clause-told_wanting : goal.returns-in_err-text-clause-told_wanting
 returns-in_err-text-clause-told_wanting g c =
     any_err _ (ran_wanting _ _ _ _ _ _ _ _
-    (subst (λ jobs. RanJobs (rig_told_of c.args.words.now) c.args.areas jobs (end_told c.in_ok-end.end)) c.in_ok-jobs.ensures.jobs
+    (subst (λ scripts. RanJobs (rig_told_of c.args.words.now) c.args.areas scripts (end_told c.in_ok-end.end)) c.in_ok-clients.ensures.scripts
     c.in_ok-end.ensures.ran) c.in_ok-end.ensures.told)

@@ -2,7 +2,7 @@ use Rattle.std.proofs.Common.{option_map, refl}
 use Rattle.s7_rig.specs.Shown.{end_told}
 use Rattle.s7_tool_main.proofs.RanLemmas.{if_ok, rig_prints}
 use Rattle.s7_tool_main.proofs.ToldLemmas.{wanting_same}
-use Rattle.s7_tool_main.proofs.rigs.rigging.run_jobs.Goals as goal
+use Rattle.s7_tool_main.proofs.rigs.rigging.run_clients.Goals as goal
 
 pub returns-clause-printable : goal.returns-clause-printable
 returns-clause-printable g c =
