@@ -6,3 +6,4 @@ pub mod Lines
 pub mod RunLemmas
 pub mod Actors
 pub mod RigLemmas
+pub mod RelayLemmas

@@ -4,3 +4,5 @@ pub mod Fields
 pub mod Server
 pub mod Tool
 pub mod Shown
+pub mod Relay
+pub mod RelayShown

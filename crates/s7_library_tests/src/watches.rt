@@ -14,13 +14,7 @@ use s7_watch::Watch;
 use std::alloc::Global;
 
 /// A read: its job, the code with which it ends, the return codes of its items, the octets that were read, and the lines.
-type Read = (
-    &'static str,
-    u32,
-    &'static str,
-    &'static str,
-    &'static str,
-);
+type Read = (&'static str, u32, &'static str, &'static str, &'static str);
 
 /// Tags, a number of rounds, and all reads. No job is left after them.
 type Row = (&'static str, u32, &'static [Read]);
@@ -100,7 +94,13 @@ const WATCHED: &[Row] = &[
         TWO,
         2,
         &[
-            (READ_TWO, 0, "FFFF", "00010002", "round 1 A 1\nround 1 B 2\n"),
+            (
+                READ_TWO,
+                0,
+                "FFFF",
+                "00010002",
+                "round 1 A 1\nround 1 B 2\n",
+            ),
             (READ_TWO, 0, "FFFF", "00010002", ""),
         ],
     ),
@@ -108,7 +108,13 @@ const WATCHED: &[Row] = &[
         TWO,
         2,
         &[
-            (READ_TWO, 0, "FFFF", "00010002", "round 1 A 1\nround 1 B 2\n"),
+            (
+                READ_TWO,
+                0,
+                "FFFF",
+                "00010002",
+                "round 1 A 1\nround 1 B 2\n",
+            ),
             (READ_TWO, 0, "FFFF", "00010007", "round 2 B 7\n"),
         ],
     ),
@@ -131,13 +137,7 @@ const WATCHED: &[Row] = &[
                 "000100071A00",
                 "round 2 B 7\nround 2 C bad 1a00\n",
             ),
-            (
-                READ_THREE,
-                0,
-                "05FFFF",
-                "00071A00",
-                "round 3 A code 05\n",
-            ),
+            (READ_THREE, 0, "05FFFF", "00071A00", "round 3 A code 05\n"),
             (
                 READ_THREE,
                 0,
@@ -145,13 +145,7 @@ const WATCHED: &[Row] = &[
                 "0012",
                 "round 4 A code 0A\nround 4 B code 0A\nround 4 C 12\n",
             ),
-            (
-                READ_THREE,
-                0,
-                "FF0AFF",
-                "00010012",
-                "round 5 A 1\n",
-            ),
+            (READ_THREE, 0, "FF0AFF", "00010012", "round 5 A 1\n"),
         ],
     ),
     // No job is left after one that failed.
@@ -159,7 +153,13 @@ const WATCHED: &[Row] = &[
         TWO,
         3,
         &[
-            (READ_TWO, 0, "FFFF", "FFFE0002", "round 1 A -2\nround 1 B 2\n"),
+            (
+                READ_TWO,
+                0,
+                "FFFF",
+                "FFFE0002",
+                "round 1 A -2\nround 1 B 2\n",
+            ),
             (READ_TWO, 0x0230_0000, "", "", "round 2 failed 02300000\n"),
         ],
     ),
@@ -175,13 +175,7 @@ const WATCHED: &[Row] = &[
         &[
             (READ_TWENTY, 0, "FF*20", "00*19 01", TWENTY_LINES),
             ("readmany 83.0.01.1.20", 0, "FF", "01", "round 1 T21 1\n"),
-            (
-                READ_TWENTY,
-                0,
-                "FF*20",
-                "01 00*18 01",
-                "round 2 T1 1\n",
-            ),
+            (READ_TWENTY, 0, "FF*20", "01 00*18 01", "round 2 T1 1\n"),
             ("readmany 83.0.01.1.20", 0, "FF", "00", "round 2 T21 0\n"),
         ],
     ),

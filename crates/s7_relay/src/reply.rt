@@ -15,8 +15,8 @@ use crate::errors::{NO_FUNCTION, NO_LINK, TOO_LONG, error_of};
 use crate::passage::Passage;
 use s7_client::JobResult;
 use s7_client::codes::GOOD as NO_FAULT;
-use s7_item::codes::{GOOD, READ_FUNCTION, WRITE_FUNCTION};
 use s7_item::Item;
+use s7_item::codes::{GOOD, READ_FUNCTION, WRITE_FUNCTION};
 use s7_outer::Buffer;
 use s7_plant::{Reply, Request, add_octets};
 

@@ -11,6 +11,8 @@ use Rattle.s7_plant.specs.Books.{BookTold}
 use Rattle.s7_plant.specs.Journals.{entries_of}
 use Rattle.s7_plant.specs.State.{begins_with, state_of}
 use Rattle.s7_listener.specs.Given.{HasFailed}
+use Rattle.s7_report.specs.Lines.{file_line, memory_line}
+use Rattle.s7_report.specs.Output.{BreaksOff, Gains, Printed}
 use Rattle.s7_script.specs.Naming.{Named, path, block, faulty, naming}
 use Rattle.s7_script.specs.Loading.{NamedGives}
 use Rattle.s7_script.specs.declared.areas.load.LoadFault.{LoadFault}
@@ -20,8 +22,7 @@ use Rattle.s7_server_main.specs.declared.run.Ended.TheVariants as ended
 use Rattle.s7_server_main.specs.declared.run.Run.{Run}
 use Rattle.s7_server_main.specs.Asked.{AskedTold, asked_by}
 use Rattle.s7_server_main.specs.Hosts.{ServesDoor, ServesPipe}
-use Rattle.s7_server_main.specs.Report.{BreaksOff, Gains, Printed}
-use Rattle.s7_server_main.specs.Report.{door_line, file_line, memory_line, refusal_line, report_text}
+use Rattle.s7_server_main.specs.Report.{door_line, refusal_line, report_text}
 use Rattle.s7_server_main.specs.Saving.{HoldsAreas}
 use Rattle.s7_server_main.specs.Told.{RunTold, run_told}
 

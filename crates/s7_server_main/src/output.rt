@@ -1,12 +1,14 @@
 //! Printing the report and the lines for failures.
 ghost use Rattle.std.specs.Prelude.{◌≡◌};
-ghost use Rattle.s7_server_main.specs.Report.{Printed, Reports, TellsFault, report_text};
+ghost use Rattle.s7_report.specs.Output.{Printed};
+ghost use Rattle.s7_server_main.specs.Report.{Reports, TellsFault, report_text};
 ghost use Rattle.s7_server_main.specs.Told.{run_told};
 
-use crate::report::{areas_line, file_line, report};
+use crate::report::{areas_line, report};
 use crate::run::{Ended, Run};
 use s7_outer::{Link, Out};
 use s7_plant::Observer;
+use s7_report::{file_line, print_line};
 use s7_script::LoadFault;
 use std::alloc::Global;
 
@@ -65,14 +67,4 @@ pub(crate) fn print_as<O: Out>(ended: Ended, line: &[u8], out: &mut O) -> Ended
 {
     print_line(line, out);
     ended
-}
-
-/// Prints a line. A failure of the output is ignored.
-pub(crate) fn print_line<O: Out>(line: &[u8], out: &mut O)
-    ensures { Printed (O.shows out.old) (O.shows out.new) line.now }
-{
-    match out.put(line) {
-        Ok(()) => {}
-        Err(_) => {}
-    }
 }

@@ -5,16 +5,15 @@ ghost use Rattle.s7_plant.specs.Books.{book_told};
 ghost use Rattle.s7_plant.specs.Journals.{at};
 ghost use Rattle.s7_plant.specs.State.{state_of};
 ghost use Rattle.s7_listener.specs.Served.{told_of};
-ghost use Rattle.s7_server_main.specs.Report.{outcome_text, line_with, line_of, journal_line, report_text};
-ghost use Rattle.s7_server_main.specs.Report.{entry_text, refusal_line, file_line};
+ghost use Rattle.s7_server_main.specs.Report.{entry_text, line_of, refusal_line, report_text};
 ghost use Rattle.s7_server_main.specs.Told.{all_told, run_told};
 
 use crate::run::Run;
 use s7_listener::Served;
 use s7_outer::{Link, Memory};
 use s7_plant::{Book, Observer, Plant, Steps};
+use s7_report::{journal_line, line_with, outcome_text};
 use s7_script::{LoadFault, write_areas};
-use s7_session::Outcome;
 use std::alloc::{AllocError, Global};
 use std::marker::Brand;
 use std::sync::ledger::{Blank, Ledger};
@@ -104,51 +103,9 @@ fn link_line<L: Link + Drop>(alloc: Global, served: &Served<L>) -> Result<String
     line_with(alloc, served.link, outcome.as_str(), served.entries)
 }
 
-/// The line of a link with this number, outcome and number of entries.
-fn line_with(alloc: Global, link: u32, outcome: &str, entries: u64) -> Result<String, AllocError>
-    ensures { IfOk result (λ line. string_bytes line ≡ line_with link outcome.now entries) }
-{
-    format!(in alloc; "link {link} {outcome} entries {entries}\n")
-}
-
-/// The text of an outcome.
-fn outcome_text(alloc: Global, outcome: Outcome) -> Result<String, AllocError>
-    ensures { IfOk result (λ text. string_bytes text ≡ outcome_text outcome) }
-{
-    match outcome {
-        Outcome::Ended => String::from_str(alloc, "ended"),
-        Outcome::Torn(count) => format!(in alloc; "torn {count}"),
-        Outcome::BadFrame { at } => format!(in alloc; "bad-frame {at}"),
-        Outcome::FrameTooLong { at } => format!(in alloc; "frame-too-long {at}"),
-        Outcome::BadTpdu { at } => format!(in alloc; "bad-tpdu {at}"),
-        Outcome::Unexpected { at } => format!(in alloc; "unexpected {at}"),
-        Outcome::TooManyFragments { at } => format!(in alloc; "too-many-fragments {at}"),
-        Outcome::TooLong { at } => format!(in alloc; "too-long {at}"),
-        Outcome::NotS7 { at } => format!(in alloc; "not-s7 {at}"),
-        Outcome::ReadFault => String::from_str(alloc, "read-fault"),
-        Outcome::WriteFault => String::from_str(alloc, "write-fault"),
-        Outcome::Spent => String::from_str(alloc, "spent"),
-        Outcome::Memory => String::from_str(alloc, "memory"),
-    }
-}
-
-/// The line of the journal's length.
-fn journal_line(alloc: Global, entries: u64) -> Result<String, AllocError>
-    ensures { IfOk result (λ line. string_bytes line ≡ journal_line entries) }
-{
-    format!(in alloc; "journal {entries}\n")
-}
-
 /// The line for an area file whose line of this number is faulty.
 pub fn areas_line(alloc: Global, number: u32) -> Result<String, AllocError>
     ensures { IfOk result (λ text. refusal_line (LoadFault.Line number) ≡ Some (string_bytes text)) }
 {
     format!(in alloc; "areas line {number}\n")
-}
-
-/// The line for a file that failed.
-pub fn file_line(alloc: Global, path: &str) -> Result<String, AllocError>
-    ensures { IfOk result (λ text. string_bytes text ≡ file_line path.now) }
-{
-    format!(in alloc; "file failed {path}\n")
 }

@@ -523,7 +523,12 @@ fn is_hindered_at<R: Wait + Clock>(
     hindrance: &Hindrance,
 ) -> Option<bool> {
     let (fate, times, answer) = *hindrance;
-    is_answered(rt, alloc, a_hindered_line(alloc, call, fate, times)?, answer)
+    is_answered(
+        rt,
+        alloc,
+        a_hindered_line(alloc, call, fate, times)?,
+        answer,
+    )
 }
 
 /// A far link's octets for a read: 22 of the confirm, 27 of the grant, 29 of the answer.

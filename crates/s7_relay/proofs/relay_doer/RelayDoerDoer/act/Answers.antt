@@ -50,12 +50,11 @@ returns-clause-entered g c =
     let same = ap (λ v. v.items) step.kept in
     let grown = c.push_reserved.ensures.items ∙ (λ i. same i ++ c.entry_of.ensures i ∷ []) in
     let far = far_model g.K.Dial.shows g.M.Link.shows c.relay.new.self.far in
-    let long = ap vec_len step.kept in
-    (
+    let long = ap vec_len step.kept in (
       r,
       refl,
       step.copied,
       omega (arith, c.len-number.ensures, long, c.args.self.now.kept.ok.0),
       relayed_as_kept g.M.Link.shows _ _ _ _ c.args.ask c.in-Ok.kept c.in-Ok.passage step.passes (step.copied ∙ step.said),
-      (λ i. record { windows = step.windows i; server = step.server i; limit = step.limit i; far = far; kept = grown i })
+      (λ i. record { windows = step.windows i; server = step.server i; limit = step.limit i; far = far; kept = grown i }),
     )

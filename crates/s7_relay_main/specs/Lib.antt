@@ -1,0 +1,6 @@
+pub mod Asked
+pub mod Loading
+pub mod Report
+pub mod Statuses
+pub mod Relay
+pub mod End

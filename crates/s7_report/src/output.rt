@@ -1,0 +1,14 @@
+//! Printing lines.
+ghost use Rattle.s7_report.specs.Output.{Printed};
+
+use s7_outer::Out;
+
+/// Prints a line. A failure of the output is ignored.
+pub fn print_line<O: Out>(line: &[u8], out: &mut O)
+    ensures { Printed (O.shows out.old) (O.shows out.new) line.now }
+{
+    match out.put(line) {
+        Ok(()) => {}
+        Err(_) => {}
+    }
+}
