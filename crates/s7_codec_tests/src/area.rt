@@ -1,3 +1,4 @@
+//! Tests of areas: reads and writes of items, guards, copies, and the registration of areas.
 ghost use Rattle.std.specs.Prelude.{◌≡◌, IfSome};
 ghost use Rattle.s7_area.specs.Guards.{IsGuard};
 ghost use Rattle.s7_area.specs.Memory.{shape_of};
@@ -7,16 +8,19 @@ use s7_item::Item;
 use s7_outer::{Memory, Octets};
 use std::alloc::Global;
 
+/// The key of data block 1.
 const DB1: AreaKey = AreaKey {
     area: 0x84,
     number: 1,
 };
 
+/// The key of the counters.
 const COUNTERS: AreaKey = AreaKey {
     area: 0x1C,
     number: 0,
 };
 
+/// The key of an area.
 fn key(area: u8, number: u16) -> AreaKey {
     AreaKey { area, number }
 }
@@ -24,12 +28,9 @@ fn key(area: u8, number: u16) -> AreaKey {
 /// An item: the area, the data block, the word, the count and the address.
 type Place = (u8, u16, u8, u16, u32);
 
+/// The item at a place.
 fn item_at(place: Place) -> Item {
     let (area, db, word, count, address) = place;
-    item(area, db, word, count, address)
-}
-
-fn item(area: u8, db: u16, word: u8, count: u16, address: u32) -> Item {
     Item {
         area,
         db,
@@ -39,19 +40,35 @@ fn item(area: u8, db: u16, word: u8, count: u16, address: u32) -> Item {
     }
 }
 
+/// The fault for which an area isn't registered, and the number of octets that are handed back then.
+fn refusal(
+    alloc: Global,
+    areas: &mut Areas,
+    key: AreaKey,
+    octets: Octets,
+) -> Option<(RegisterFault, usize)> {
+    match areas.register(alloc, key, octets) {
+        Ok(()) => None,
+        Err((fault, back)) => Some((fault, back.as_slice().len())),
+    }
+}
+
+/// Keys of two areas, and the octets of these.
+const TWO: &[(AreaKey, [u8; 4])] = &[(DB1, [0x11, 0x22, 0x33, 0x44]), (COUNTERS, [0, 1, 0, 2])];
+
 /// Data block 1 with `11 22 33 44`, and the counters 1 and 2.
 fn two_areas(alloc: Global) -> Result<Areas, Memory> {
     let mut areas = Areas::new();
-    for (key, octets) in [(DB1, [0x11, 0x22, 0x33, 0x44]), (COUNTERS, [0, 1, 0, 2])] {
-        let octets = Octets::copy_of(alloc, &octets)?;
-        if areas.register(alloc, key, octets).is_err() {
+    for (key, octets) in TWO {
+        let octets = Octets::copy_of(alloc, octets)?;
+        if refusal(alloc, &mut areas, *key, octets).is_some() {
             return Err(Memory);
         }
     }
     Ok(areas)
 }
 
-/// A guard of level 2 or 3; none for another level.
+/// A guard of level 2 or 3. There is none for another level.
 fn guard(level: u8) -> Option<Guard>
     ensures { IfSome result IsGuard }
 {
@@ -64,7 +81,7 @@ fn guard(level: u8) -> Option<Guard>
     })
 }
 
-/// The codes of a read and of a write of the item.
+/// The return codes of a read and of a write of the item.
 fn codes(areas: &mut Areas, right: bool, item: &Item) -> (u8, u8) {
     let mut into = [0xEE; 8];
     if item.octet_count() > into.len() {
@@ -74,7 +91,7 @@ fn codes(areas: &mut Areas, right: bool, item: &Item) -> (u8, u8) {
     (read, areas.write(right, item, &[0x55]))
 }
 
-/// Whether a read of the item gives this code and these octets, of which there are at most eight.
+/// Reports whether a read of the item gives this return code and these octets, of which there are at most eight.
 fn reads(areas: &Areas, item: &Item, code: u8, octets: &[u8]) -> bool {
     let mut into = [0xEE; 8];
     if item.octet_count() > into.len() {
@@ -84,7 +101,7 @@ fn reads(areas: &Areas, item: &Item, code: u8, octets: &[u8]) -> bool {
     answer.code == code && answer.len == octets.len() && into.starts_with(octets)
 }
 
-/// Items, the codes of their reads, and the octets read.
+/// Items, the return codes of their reads, and the octets that are read.
 const READS: &[(Place, u8, &[u8])] = &[
     ((0x84, 1, 0x02, 2, 0x10), 0xFF, &[0x33, 0x44]),
     ((0x84, 1, 0x02, 2, 0x17), 0xFF, &[0x33, 0x44]),
@@ -100,6 +117,7 @@ const READS: &[(Place, u8, &[u8])] = &[
     ((0x84, 1, 0x01, 1, 5), 0xFF, &[0x00]),
 ];
 
+/// Reads of items give the return codes and the octets of the rows.
 #[test]
 fn items_are_read(rt: HostRuntime) {
     let areas = two_areas(rt.alloc()).expect(&rt, "there is memory");
@@ -108,7 +126,7 @@ fn items_are_read(rt: HostRuntime) {
     }
 }
 
-/// Items, the octets written to them, the codes, and the octets of data block 1 then.
+/// Items, the octets that are written to them, the return codes, and the octets of data block 1 after that.
 const WRITES: &[(Place, &[u8], u8, &[u8])] = &[
     (
         (0x84, 1, 0x02, 1, 0),
@@ -154,14 +172,17 @@ const WRITES: &[(Place, &[u8], u8, &[u8])] = &[
     ),
 ];
 
+/// Reports whether an area has these octets. It has none if it isn't registered.
 fn has_octets(areas: &Areas, key: AreaKey, octets: Option<&[u8]>) -> bool {
     areas.octets_of(key) == octets
 }
 
+/// Reports whether a write of octets to the item at a place gives this return code.
 fn writes(areas: &mut Areas, place: Place, octets: &[u8], code: u8) -> bool {
     areas.write(true, &item_at(place), octets) == code
 }
 
+/// Writes of items give the return codes of the rows, and leave the octets of the rows.
 #[test]
 fn items_are_written(rt: HostRuntime) {
     let mut areas = two_areas(rt.alloc()).expect(&rt, "there is memory");
@@ -170,11 +191,13 @@ fn items_are_written(rt: HostRuntime) {
     }
 }
 
+/// The place of an item that is there.
 const GOOD: Place = (0x84, 1, 0x02, 1, 0);
 
+/// The place of an item whose word is unknown.
 const BAD: Place = (0x84, 1, 0x09, 1, 0);
 
-/// Levels of guards, whether the right to pass them is there, items, and the codes of a read and of a write.
+/// Levels of guards, whether a link has the right to pass them, items, and the return codes of a read and of a write.
 const GUARDS: &[(u8, bool, Place, (u8, u8))] = &[
     (1, false, GOOD, (0xFF, 0xFF)),
     (2, false, GOOD, (0xFF, 0x03)),
@@ -186,19 +209,19 @@ const GUARDS: &[(u8, bool, Place, (u8, u8))] = &[
     (3, true, BAD, (0x06, 0x06)),
 ];
 
-/// The two areas with the guard.
+/// The two areas with the guard of a level.
 fn guarded(alloc: Global, level: u8) -> Result<Areas, Memory> {
     let mut areas = two_areas(alloc)?;
     areas.set_guard(guard(level));
     Ok(areas)
 }
 
-/// A copy of them.
+/// A copy of the two areas with the guard of a level.
 fn copied(alloc: Global, level: u8) -> Result<Areas, Memory> {
     guarded(alloc, level)?.copy(alloc)
 }
 
-/// Whether areas with the guard, and a copy of them, answer so.
+/// Reports whether areas with the guard of a level, and a copy of them, give these return codes.
 fn guards(alloc: Global, level: u8, right: bool, item: &Item, answers: (u8, u8)) -> bool {
     let (Ok(mut areas), Ok(mut copy)) = (guarded(alloc, level), copied(alloc, level)) else {
         return false;
@@ -208,6 +231,7 @@ fn guards(alloc: Global, level: u8, right: bool, item: &Item, answers: (u8, u8))
         && codes(&mut copy, right, item) == answers
 }
 
+/// A guard bars the items that the rows say, in areas and in a copy of them.
 #[test]
 fn guards_bar_items(rt: HostRuntime) {
     for &(level, right, place, answers) in GUARDS {
@@ -215,16 +239,16 @@ fn guards_bar_items(rt: HostRuntime) {
     }
 }
 
-/// Writes both areas and guards them.
+/// Writes both areas and guards them. Each area keeps its length.
 fn change(areas: &mut Areas)
     ensures { shape_of areas.new ≡ shape_of areas.old }
 {
-    areas.write(true, &item(0x84, 1, 0x02, 4, 0), &[5, 6, 7, 8]);
-    areas.write(true, &item(0x1C, 0, 0x1C, 1, 1), &[0, 9]);
+    areas.write(true, &item_at((0x84, 1, 0x02, 4, 0)), &[5, 6, 7, 8]);
+    areas.write(true, &item_at((0x1C, 0, 0x1C, 1, 1)), &[0, 9]);
     areas.set_guard(guard(3));
 }
 
-/// A copy of areas that took over what these became.
+/// A copy of areas, which took over the changed areas.
 fn taken_over(alloc: Global) -> Result<Areas, Memory> {
     let mut areas = two_areas(alloc)?;
     let mut image = areas.copy(alloc)?;
@@ -233,10 +257,12 @@ fn taken_over(alloc: Global) -> Result<Areas, Memory> {
     Ok(image)
 }
 
+/// Reports whether areas have the guard of this level.
 fn has_guard(areas: &Areas, level: u8) -> bool {
     areas.guard() == guard(level)
 }
 
+/// A copy of areas takes over octets and a guard that were changed after it was made.
 #[test]
 fn areas_take_over_others(rt: HostRuntime) {
     let image = taken_over(rt.alloc()).expect(&rt, "there is memory");
@@ -247,25 +273,34 @@ fn areas_take_over_others(rt: HostRuntime) {
     );
 }
 
-/// Whether an area of so many octets is registered, or refused by this fault with its octets handed back.
+/// Octets 07, `len` of them.
+fn sevens(alloc: Global, len: usize) -> Option<Octets> {
+    Some(Octets::of_vec(vec![in alloc; 7; len].ok()?))
+}
+
+/// Reports whether an area of `len` octets is registered, or refused for this fault, with its octets handed back.
 fn registers(
     alloc: Global,
     areas: &mut Areas,
     key: AreaKey,
     len: usize,
-    wanted: Result<(), RegisterFault>,
+    wanted: Option<RegisterFault>,
 ) -> bool {
-    let Ok(octets) = vec![in alloc; 7; len] else {
+    let Some(octets) = sevens(alloc, len) else {
         return false;
     };
-    match areas.register(alloc, key, Octets::of_vec(octets)) {
-        Ok(()) => wanted == Ok(()),
-        Err((fault, back)) => wanted == Err(fault) && back.as_slice().len() == len,
+    match (refusal(alloc, areas, key, octets), wanted) {
+        (None, None) => true,
+        (Some((fault, back)), Some(wanted)) => fault == wanted && back == len,
+        _ => false,
     }
 }
 
-/// Areas that can't be registered: the key, the length, the fault and its code.
-const REFUSED: &[(u8, u16, usize, RegisterFault, u32)] = &[
+/// An area that is refused: its area, its number, its length, the fault, and the code of the fault.
+type Refused = (u8, u16, usize, RegisterFault, u32);
+
+/// Areas that are refused by areas with data block 1 and counters.
+const REFUSED: &[Refused] = &[
     (0x84, 0, 4, RegisterFault::Key, 0x0050_0000),
     (0x83, 1, 4, RegisterFault::Key, 0x0050_0000),
     (0x80, 0, 4, RegisterFault::Key, 0x0050_0000),
@@ -276,27 +311,31 @@ const REFUSED: &[(u8, u16, usize, RegisterFault, u32)] = &[
     (0x1C, 0, 2, RegisterFault::Exists, 0x0030_0000),
 ];
 
-fn has_code(fault: RegisterFault, code: u32) -> bool {
-    fault.code() == code
+/// An area that is refused by areas with 2,048 data blocks.
+const TOO_MANY: Refused = (0x84, 2_049, 1, RegisterFault::TooManyDbs, 0x0060_0000);
+
+/// Reports whether an area is refused as its row says.
+fn refuses(alloc: Global, areas: &mut Areas, row: &Refused) -> bool {
+    let (area, number, len, fault, code) = *row;
+    registers(alloc, areas, key(area, number), len, Some(fault)) && fault.code() == code
 }
 
+/// Reports whether areas have this number of data blocks.
 fn has_data_blocks(areas: &Areas, count: usize) -> bool {
     areas.db_numbers().count() == count
 }
 
+/// Areas that can't be registered are refused, and none of them is there after that.
 #[test]
 fn areas_are_refused(rt: HostRuntime) {
     let mut areas = two_areas(rt.alloc()).expect(&rt, "there is memory");
-    for &(area, number, len, fault, code) in REFUSED {
-        assert!(rt;
-            registers(rt.alloc(), &mut areas, key(area, number), len, Err(fault))
-                && has_code(fault, code)
-        );
+    for row in REFUSED {
+        assert!(rt; refuses(rt.alloc(), &mut areas, row));
     }
     assert!(rt; has_data_blocks(&areas, 1));
 }
 
-/// Whether an area is unregistered and hands these octets back; `None` where there is none.
+/// Reports whether an area is unregistered and hands these octets back. It hands none back if it isn't registered.
 fn unregisters(areas: &mut Areas, key: AreaKey, wanted: Option<&[u8]>) -> bool {
     match areas.unregister(key) {
         Ok(octets) => wanted == Some(octets.as_slice()),
@@ -304,32 +343,45 @@ fn unregisters(areas: &mut Areas, key: AreaKey, wanted: Option<&[u8]>) -> bool {
     }
 }
 
+/// Reports whether data block 1 is unregistered and hands its octets back, while a copy of the areas keeps it.
+fn is_kept_by_copy(alloc: Global, areas: &mut Areas) -> bool {
+    let Ok(copy) = areas.copy(alloc) else {
+        return false;
+    };
+    unregisters(areas, DB1, Some(&[0x11, 0x22, 0x33, 0x44]))
+        && has_octets(areas, DB1, None)
+        && !has_octets(&copy, DB1, None)
+}
+
+/// Areas are registered and unregistered, and a copy keeps an area that is unregistered.
 #[test]
 fn areas_are_registered(rt: HostRuntime) {
     let mut areas = two_areas(rt.alloc()).expect(&rt, "there is memory");
     assert!(rt;
-        registers(rt.alloc(), &mut areas, key(0x84, 3), 2_097_152, Ok(()))
+        registers(rt.alloc(), &mut areas, key(0x84, 3), 2_097_152, None)
             && unregisters(&mut areas, key(0x84, 9), None)
             && has_data_blocks(&areas, 2)
-    );
-    let copy = areas.copy(rt.alloc()).expect(&rt, "there is memory");
-    assert!(rt;
-        unregisters(&mut areas, DB1, Some(&[0x11, 0x22, 0x33, 0x44]))
-            && has_octets(&areas, DB1, None)
-            && !has_octets(&copy, DB1, None)
+            && is_kept_by_copy(rt.alloc(), &mut areas)
     );
 }
 
+/// Reports whether data blocks of one octet are registered, `count` of them.
+fn are_registered(alloc: Global, areas: &mut Areas, count: u16) -> bool {
+    for number in 1..=count {
+        if !registers(alloc, areas, key(0x84, number), 1, None) {
+            return false;
+        }
+    }
+    true
+}
+
+/// At most 2,048 data blocks are registered, and an area of another kind after them.
 #[test]
 fn data_blocks_are_counted(rt: HostRuntime) {
     let mut areas = Areas::new();
-    for number in 1..=2_048 {
-        assert!(rt; registers(rt.alloc(), &mut areas, key(0x84, number), 1, Ok(())));
-    }
-    let fault = RegisterFault::TooManyDbs;
     assert!(rt;
-        registers(rt.alloc(), &mut areas, key(0x84, 2_049), 1, Err(fault))
-            && has_code(fault, 0x0060_0000)
-            && registers(rt.alloc(), &mut areas, key(0x83, 0), 1, Ok(()))
+        are_registered(rt.alloc(), &mut areas, 2_048)
+            && refuses(rt.alloc(), &mut areas, &TOO_MANY)
+            && registers(rt.alloc(), &mut areas, key(0x83, 0), 1, None)
     );
 }

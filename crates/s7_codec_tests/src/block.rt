@@ -1,3 +1,7 @@
+//! Tests of blocks: heads, the store of blocks, marks, and the sides of uploads and downloads.
+ghost use Rattle.std.specs.Prelude.{◌≡◌, IfSome};
+
+use crate::rows::all_hold;
 use s7_block::{
     Added, Block, BlockClient, BlockFault, BlockName, Blocks, DownloadSide, Marks, UploadSide,
     db_head, head_agrees,
@@ -5,7 +9,7 @@ use s7_block::{
 use s7_outer::{Buffer, Memory, Octets};
 use std::alloc::Global;
 
-/// A function 5 of 38 octets: its head, typed out, and two octets of its own.
+/// Function 5 of 38 octets: its head, and two octets of its own.
 const FC_5: [u8; 38] = [
     0x70, 0x70, 0x01, 0x01, 0x05, 0x0C, 0x00, 0x05, 0x00, 0x00, 0x00, 0x26, 0x00, 0x00, 0x00, 0x00,
     0x00, 0x00, 0x00, 0x00, 0x00, 0x00, 0x00, 0x00, 0x00, 0x00, 0x00, 0x00, 0x00, 0x00, 0x00, 0x00,
@@ -19,7 +23,7 @@ const HEAD_12: [u8; 36] = [
     0x00, 0x00, 0x03, 0xE8,
 ];
 
-/// The head of a data block of at most 65,536 octets.
+/// The head of a data block. It is written only if the data block has at most 65,536 octets.
 fn head(number: u16, len: u32) -> [u8; 36] {
     let mut head = [0xEE; 36];
     if len <= 65_536 {
@@ -28,22 +32,25 @@ fn head(number: u16, len: u32) -> [u8; 36] {
     head
 }
 
+/// Reports whether the head of a data block has this number and load length, and this body length.
+fn has_fields(number: u16, len: u32, first: &[u8], last: &[u8]) -> bool {
+    let head = head(number, len);
+    &head[6..12] == first && &head[34..] == last
+}
+
+/// The heads of data blocks have the octets of the format.
 #[test]
 fn heads_are_written(rt: HostRuntime) {
     assert!(rt; head(12, 1_000) == HEAD_12);
-    let head = head(0x1234, 65_536);
-    assert!(rt;
-        &head[6..12] == b"\x12\x34\x00\x01\x00\x24".as_slice()
-            && &head[34..] == b"\xFF\xFF".as_slice()
-    );
+    assert!(rt; has_fields(0x1234, 65_536, b"\x12\x34\x00\x01\x00\x24", b"\xFF\xFF"));
 }
 
-/// Whether an image's head is that of a block of this kind and number.
+/// Reports whether an image's head is that of a block of this kind and number.
 fn agrees(image: &[u8], kind: u8, number: u16) -> bool {
     head_agrees(image, kind, number)
 }
 
-/// Whether the head of function 5 still agrees with another octet at a place.
+/// Reports whether the head of function 5 agrees with another octet at this offset.
 fn agrees_changed(at: usize) -> bool {
     let mut image = FC_5;
     if at < 38 {
@@ -52,30 +59,54 @@ fn agrees_changed(at: usize) -> bool {
     agrees(&image, 0x43, 5)
 }
 
-/// The octets of the mark, the type, the number, the load length and the body length.
+/// The offsets of the octets of the mark, the type, the number, the load length and the body length.
 const LOOKED_AT: &[usize] = &[0, 1, 5, 6, 7, 8, 9, 10, 11, 34, 35];
 
-/// Octets that are not looked at.
+/// The offsets of octets that are not looked at.
 const OTHERS: &[usize] = &[2, 3, 4, 12, 21, 33, 37];
 
-#[test]
-fn heads_agree(rt: HostRuntime) {
-    assert!(rt;
-        agrees(&FC_5, 0x43, 5)
-            && !agrees(&FC_5, 0x45, 5)
-            && !agrees(&FC_5, 0x43, 6)
-            && !agrees(&FC_5[..37], 0x43, 5)
-            && !agrees(&FC_5[..35], 0x43, 5)
-    );
-    for &at in LOOKED_AT {
-        assert!(rt; !agrees_changed(at));
-    }
-    for &at in OTHERS {
-        assert!(rt; agrees_changed(at));
-    }
+/// Numbers of the first octets of function 5, a kind, a number, and whether the image agrees with them.
+const IMAGES: &[(usize, u8, u16, bool)] = &[
+    (38, 0x43, 5, true),
+    (38, 0x45, 5, false),
+    (38, 0x43, 6, false),
+    (37, 0x43, 5, false),
+    (35, 0x43, 5, false),
+];
+
+/// Reports whether the first octets of function 5 agree as a row says.
+fn agrees_as(row: &(usize, u8, u16, bool)) -> bool {
+    let (len, kind, number, wanted) = *row;
+    len <= 38 && agrees(&FC_5[..len], kind, number) == wanted
 }
 
-/// Function 5 under another number, whose head is of that number.
+/// Reports whether the first octets of function 5 agree as all rows say.
+fn all_agree_as(rows: &[(usize, u8, u16, bool)]) -> bool {
+    for row in rows {
+        if !agrees_as(row) {
+            return false;
+        }
+    }
+    true
+}
+
+/// Reports whether the head agrees, or not, with another octet at each of these offsets.
+fn all_agree(offsets: &[usize], wanted: bool) -> bool {
+    for at in offsets {
+        if agrees_changed(*at) != wanted {
+            return false;
+        }
+    }
+    true
+}
+
+/// An image agrees exactly with the kind, the number and the lengths of its head.
+#[test]
+fn heads_agree(rt: HostRuntime) {
+    assert!(rt; all_agree_as(IMAGES) && all_agree(LOOKED_AT, false) && all_agree(OTHERS, true));
+}
+
+/// Function 5 under another number, which its head has too.
 fn function(number: u16) -> [u8; 38] {
     let mut image = FC_5;
     image[6] = (number / 256) as u8;
@@ -83,8 +114,26 @@ fn function(number: u16) -> [u8; 38] {
     image
 }
 
-/// Whether the insert of a block comes to this: the number of the block replaced, if there was one, or the fault,
-/// where the block comes back as it was.
+/// The outcome of an insert: the number of the block that was replaced, if there was one, or the fault, the number of
+/// the block that was handed back, and whether it has this image.
+fn inserted(
+    blocks: &mut Blocks,
+    block: Block,
+    image: &[u8; 38],
+) -> Result<Option<u16>, (BlockFault, u16, bool)> {
+    match blocks.insert(block) {
+        Ok(None) => Ok(None),
+        Ok(Some(replaced)) => Ok(Some(replaced.number)),
+        Err((fault, back)) => Err((
+            fault,
+            back.number,
+            back.image.as_slice() == image.as_slice(),
+        )),
+    }
+}
+
+/// Reports whether the insert of a block has this outcome: the number of the block that was replaced, if there was one,
+/// or the fault. If it is refused, the block is handed back as it was.
 fn inserts(
     alloc: Global,
     blocks: &mut Blocks,
@@ -96,22 +145,21 @@ fn inserts(
         return false;
     };
     let BlockName { kind, number } = name;
-    match blocks.insert(Block {
+    let block = Block {
         kind,
         number,
         image: octets,
-    }) {
-        Ok(None) => wanted == Ok(None),
-        Ok(Some(replaced)) => wanted == Ok(Some(replaced.number)),
-        Err((fault, back)) => {
-            wanted == Err(fault)
-                && back.number == number
-                && back.image.as_slice() == image.as_slice()
+    };
+    match (inserted(blocks, block, image), wanted) {
+        (Ok(replaced), Ok(wanted)) => replaced == wanted,
+        (Err((fault, back, is_same)), Err(wanted)) => {
+            fault == wanted && back == number && is_same
         }
+        _ => false,
     }
 }
 
-/// Whether the insert of a function of this number comes to this.
+/// Reports whether the insert of a function of this number has this outcome.
 fn inserts_function(
     alloc: Global,
     blocks: &mut Blocks,
@@ -122,7 +170,8 @@ fn inserts_function(
     inserts(alloc, blocks, name, &function(number), wanted)
 }
 
-/// Whether there are so many blocks, of which so many are functions, and this is the first function.
+/// Reports whether there are `len` blocks, `functions` of them functions, with this first one, and there is no
+/// organization block.
 fn has(blocks: &Blocks, len: usize, functions: u16, first: u16) -> bool {
     blocks.len() == len
         && blocks.limit() == 1_024
@@ -131,39 +180,64 @@ fn has(blocks: &Blocks, len: usize, functions: u16, first: u16) -> bool {
         && blocks.numbers_of(0x43).next() == Some(first)
 }
 
+/// Reports whether there is a function of this number.
 fn has_function(blocks: &Blocks, number: u16) -> bool {
     blocks.get(0x43, number).is_some()
 }
 
-/// The number of the block deleted, if it was there.
+/// The number of the block that is deleted, if it was there.
 fn deleted(blocks: &mut Blocks, kind: u8, number: u16) -> Option<u16> {
     let block = blocks.delete(kind, number)?;
     Some(block.number)
 }
 
+/// Reports whether the functions from 1,024 down to 1 are inserted.
+fn are_inserted(alloc: Global, blocks: &mut Blocks) -> bool {
+    for number in 0..1_024 {
+        if !inserts_function(alloc, blocks, 1_024 - number, Ok(None)) {
+            return false;
+        }
+    }
+    has(blocks, 1_024, 1_024, 1)
+}
+
+/// Reports whether a full store refuses another function, and replaces one.
+fn is_full(alloc: Global, blocks: &mut Blocks) -> bool {
+    inserts_function(alloc, blocks, 1_025, Err(BlockFault::Full))
+        && inserts_function(alloc, blocks, 7, Ok(Some(7)))
+        && has(blocks, 1_024, 1_024, 1)
+}
+
+/// Reports whether the first function is deleted, and nothing that isn't there.
+fn is_deleted(blocks: &mut Blocks) -> bool {
+    deleted(blocks, 0x43, 1) == Some(1)
+        && deleted(blocks, 0x45, 2) == None
+        && !has_function(blocks, 1)
+        && has_function(blocks, 2)
+        && has(blocks, 1_023, 1_023, 2)
+}
+
+/// Reports whether a copy of blocks has the functions from 2 to 1,024.
+fn is_copied(alloc: Global, blocks: &Blocks) -> bool {
+    match blocks.copy(alloc) {
+        Ok(copy) => has(&copy, 1_023, 1_023, 2) && has_function(&copy, 1_024),
+        Err(_) => false,
+    }
+}
+
+/// A store takes, replaces, finds, deletes and copies blocks.
 #[test]
 fn blocks_are_stored(rt: HostRuntime) {
     let mut blocks = Blocks::new(rt.alloc(), 1_024).expect(&rt, "there is memory");
-    for number in 0..1_024 {
-        assert!(rt; inserts_function(rt.alloc(), &mut blocks, 1_024 - number, Ok(None)));
-    }
-    assert!(rt; has(&blocks, 1_024, 1_024, 1));
-    let full = Err(BlockFault::Full);
     assert!(rt;
-        inserts_function(rt.alloc(), &mut blocks, 1_025, full)
-            && inserts_function(rt.alloc(), &mut blocks, 7, Ok(Some(7)))
-            && has(&blocks, 1_024, 1_024, 1)
-            && deleted(&mut blocks, 0x43, 1) == Some(1)
-            && deleted(&mut blocks, 0x45, 2) == None
+        are_inserted(rt.alloc(), &mut blocks)
+            && is_full(rt.alloc(), &mut blocks)
+            && is_deleted(&mut blocks)
+            && is_copied(rt.alloc(), &blocks)
     );
-    assert!(rt;
-        !has_function(&blocks, 1) && has_function(&blocks, 2) && has(&blocks, 1_023, 1_023, 2)
-    );
-    let copy = blocks.copy(rt.alloc()).expect(&rt, "there is memory");
-    assert!(rt; has(&copy, 1_023, 1_023, 2) && has_function(&copy, 1_024));
 }
 
-/// Blocks with the image of function 5 that a full store refuses: the kind, the number and the fault.
+/// Blocks with the image of function 5 that a store without room refuses: the kind, the number and the fault.
 const REFUSED: &[(u8, u16, BlockFault)] = &[
     (0x41, 5, BlockFault::Kind),
     (0x46, 6, BlockFault::Kind),
@@ -172,6 +246,7 @@ const REFUSED: &[(u8, u16, BlockFault)] = &[
     (0x43, 5, BlockFault::Full),
 ];
 
+/// A block with several faults is refused for the first one.
 #[test]
 fn faults_come_in_order(rt: HostRuntime) {
     let mut blocks = Blocks::new(rt.alloc(), 0).expect(&rt, "there is memory");
@@ -181,7 +256,7 @@ fn faults_come_in_order(rt: HostRuntime) {
     }
 }
 
-/// Marks a function with a number; 0 takes the function out.
+/// Marks a function with a number. The number 0 removes the function.
 fn mark(marks: &mut Marks, number: u16, with: u64) {
     let name = BlockName { kind: 0x43, number };
     if with == 0 {
@@ -200,38 +275,41 @@ fn marks_of(alloc: Global, blocks: &Blocks, edits: &[(u16, u64)]) -> Result<Mark
     Ok(marks)
 }
 
-/// Whether the marks are of these functions, with these numbers, 0 for none.
-fn are_marks(marks: &Marks, told: &[(u16, u64)]) -> bool {
+/// Reports whether the marks are of these functions with these numbers, where 0 is none.
+fn are_marks(marks: &Marks, wanted: &[(u16, u64)]) -> bool {
     let list = marks.as_slice();
-    if list.len() != told.len() {
+    if list.len() != wanted.len() {
         return false;
     }
-    for k in 0..told.len() {
+    for k in 0..wanted.len() {
         let (name, with) = list[k];
-        if name.kind != 0x43 || (name.number, with.unwrap_or(0)) != told[k] {
+        if name.kind != 0x43 || (name.number, with.unwrap_or(0)) != wanted[k] {
             return false;
         }
     }
     true
 }
 
-/// Whether blocks have these marks after these edits, and other marks of them that take over those.
+/// Reports whether blocks have these marks after these edits, and other marks of them have taken these over.
 fn have_marks(
     alloc: Global,
     blocks: &Blocks,
     edits: &[(u16, u64)],
-    told: &[(u16, u64)],
+    wanted: &[(u16, u64)],
 ) -> Result<bool, Memory> {
     let marks = marks_of(alloc, blocks, edits)?;
     let mut copy = marks_of(alloc, blocks, &[])?;
     if marks.limit() <= copy.limit() {
         copy.overwrite(&marks);
     }
-    Ok(are_marks(&marks, told) && are_marks(&copy, told))
+    Ok(are_marks(&marks, wanted) && are_marks(&copy, wanted))
 }
 
-/// Edits of the marks of the functions 5 and 2, and the marks then.
-const MARKED: &[(&[(u16, u64)], &[(u16, u64)])] = &[
+/// Edits of the marks of two functions, and the marks after them.
+type Edited = (&'static [(u16, u64)], &'static [(u16, u64)]);
+
+/// Edits of the marks of the functions 5 and 2.
+const MARKED: &[Edited] = &[
     (&[], &[(2, 0), (5, 0)]),
     (&[(5, 7)], &[(2, 0), (5, 7)]),
     (&[(1, 7), (9, 8)], &[(1, 7), (2, 0), (5, 0), (9, 8)]),
@@ -241,23 +319,36 @@ const MARKED: &[(&[(u16, u64)], &[(u16, u64)])] = &[
     (&[(2, 0), (2, 7)], &[(2, 7), (5, 0)]),
 ];
 
-#[test]
-fn blocks_are_marked(rt: HostRuntime) {
-    let mut blocks = Blocks::new(rt.alloc(), 8).expect(&rt, "there is memory");
-    for number in [5, 2] {
-        assert!(rt; inserts_function(rt.alloc(), &mut blocks, number, Ok(None)));
-    }
-    for &(edits, told) in MARKED {
-        assert!(rt; have_marks(rt.alloc(), &blocks, edits, told) == Ok(true));
-    }
+/// Blocks with the functions 5 and 2.
+fn two_functions(alloc: Global) -> Option<Blocks> {
+    let mut blocks = Blocks::new(alloc, 8).ok()?;
+    let is_made = inserts_function(alloc, &mut blocks, 5, Ok(None))
+        && inserts_function(alloc, &mut blocks, 2, Ok(None));
+    if is_made { Some(blocks) } else { None }
 }
 
-/// A side that sends these octets. There is none without memory, or where the buffer that they came in isn't empty
-/// then, with its room.
-fn sending(alloc: Global, first: &[u8], second: &[u8], id: u8) -> Option<UploadSide> {
-    let Ok(mut side) = UploadSide::new(alloc, 2_000) else {
-        return None;
-    };
+/// The number of the first row that doesn't hold.
+fn unmet_marks(alloc: Global, blocks: &Blocks, rows: &[Edited]) -> Option<usize> {
+    for (row, (edits, marks)) in rows.iter().enumerate() {
+        if have_marks(alloc, blocks, edits, marks) != Ok(true) {
+            return Some(row);
+        }
+    }
+    None
+}
+
+/// Marks of blocks are put and removed as the rows say.
+#[test]
+fn blocks_are_marked(rt: HostRuntime) {
+    let blocks = two_functions(rt.alloc()).expect(&rt, "the functions are inserted");
+    all_hold(&rt, unmet_marks(rt.alloc(), &blocks, MARKED));
+}
+
+/// A buffer of room for 2,000 octets. It holds the octets of both parts, if the first has at most 1,900 and the second
+/// at most 100.
+fn image_of(alloc: Global, first: &[u8], second: &[u8]) -> Option<Buffer>
+    ensures { IfSome result (λ image. image.room ≡ 2000) }
+{
     let Ok(mut image) = Buffer::new(alloc, 2_000) else {
         return None;
     };
@@ -265,15 +356,26 @@ fn sending(alloc: Global, first: &[u8], second: &[u8], id: u8) -> Option<UploadS
         image.add(first);
         image.add(second);
     }
-    side.begin(&mut image, id);
-    if image.as_slice().is_empty() && image.room() == 2_000 {
-        Some(side)
-    } else {
-        None
-    }
+    Some(image)
 }
 
-/// The count of octets of a slice of at most 222, the last of them, and whether more slices come.
+/// Reports whether a buffer is empty and has room for 2,000 octets.
+fn is_emptied(image: &Buffer) -> bool {
+    image.as_slice().is_empty() && image.room() == 2_000
+}
+
+/// A side that sends these octets as the upload of this number. There is none if memory is missing, or the buffer of
+/// the octets isn't empty after that, with its room.
+fn sending(alloc: Global, first: &[u8], second: &[u8], id: u8) -> Option<UploadSide> {
+    let mut image = image_of(alloc, first, second)?;
+    let Ok(mut side) = UploadSide::new(alloc, 2_000) else {
+        return None;
+    };
+    side.begin(&mut image, id);
+    if is_emptied(&image) { Some(side) } else { None }
+}
+
+/// The number of octets of a slice of at most 222, its last octet, and whether more slices come.
 fn slice(side: &mut UploadSide, id: u8) -> Option<(usize, Option<u8>, bool)> {
     let slice = side.slice(id, 222)?;
     let last = match slice.octets {
@@ -283,7 +385,7 @@ fn slice(side: &mut UploadSide, id: u8) -> Option<(usize, Option<u8>, bool)> {
     Some((slice.octets.len(), last, slice.more))
 }
 
-/// Whether an upload of this number was there to be ended.
+/// Reports whether an upload of this number was there and is ended.
 fn ends(side: &mut UploadSide, id: u8) -> bool {
     side.end(id)
 }
@@ -297,33 +399,35 @@ const SLICES: &[(usize, Option<u8>, bool)] = &[
     (148, Some(0xCD), false),
 ];
 
+/// Reports whether the upload of this number gives these slices and no more, and is ended once. The next number is that
+/// of no upload.
+fn gives_slices(side: &mut UploadSide, id: u8, slices: &[(usize, Option<u8>, bool)]) -> bool {
+    let other = id.saturating_add(1);
+    let is_alone = slice(side, other) == None;
+    for wanted in slices {
+        if slice(side, id) != Some(*wanted) {
+            return false;
+        }
+    }
+    is_alone && slice(side, id) == None && !ends(side, other) && ends(side, id) && !ends(side, id)
+}
+
+/// An image of 1,036 octets is sent in five slices.
 #[test]
 fn images_are_sliced(rt: HostRuntime) {
     let side = sending(rt.alloc(), &[0xAB; 1_035], &[0xCD], 3);
     let mut side = side.expect(&rt, "the upload begins");
-    assert!(rt; slice(&mut side, 4) == None);
-    for &wanted in SLICES {
-        assert!(rt; slice(&mut side, 3) == Some(wanted));
-    }
-    assert!(rt;
-        slice(&mut side, 3) == None
-            && !ends(&mut side, 4)
-            && ends(&mut side, 3)
-            && !ends(&mut side, 3)
-    );
+    assert!(rt; gives_slices(&mut side, 3, SLICES));
 }
 
+/// An empty image is sent in one slice.
 #[test]
 fn an_empty_image_has_one_slice(rt: HostRuntime) {
     let mut side = sending(rt.alloc(), &[], &[], 1).expect(&rt, "the upload begins");
-    assert!(rt;
-        slice(&mut side, 1) == Some((0, None, false))
-            && slice(&mut side, 1) == None
-            && ends(&mut side, 1)
-    );
+    assert!(rt; gives_slices(&mut side, 1, &[(0, None, false)]));
 }
 
-/// What a side says to the last of these pieces that it takes, after which it awaits more or not.
+/// The answer of a side to the last of these pieces that it takes, and whether it awaits more after that.
 fn added(side: &mut DownloadSide, pieces: &[(&[u8], bool)]) -> (Added, bool) {
     let mut last = Added::More;
     for &(octets, more) in pieces {
@@ -334,12 +438,12 @@ fn added(side: &mut DownloadSide, pieces: &[(&[u8], bool)]) -> (Added, bool) {
     (last, side.is_awaiting())
 }
 
-/// Whether the image of a block is these octets, `None` where there is none.
+/// Reports whether the side has these octets as the image of a block.
 fn has_image(side: &DownloadSide, kind: u8, number: u16, octets: Option<&[u8]>) -> bool {
     side.image(kind, number) == octets
 }
 
-/// Lengths of images, their pieces with whether more come, and what is said to the last.
+/// Lengths of images, their pieces and whether more come after each, and the answer to the last piece.
 const PIECES: &[(u32, &[(&[u8], bool)], Added)] = &[
     (3, &[(&[1, 2], true), (&[3], false)], Added::Last),
     (3, &[(&[1, 2, 3], false)], Added::Last),
@@ -355,7 +459,7 @@ const PIECES: &[(u32, &[(&[u8], bool)], Added)] = &[
     (3, &[(&[1, 2], true)], Added::More),
 ];
 
-/// Whether a download of function 5 ends so; its image is 1, 2, 3 where it is whole.
+/// Reports whether a download of function 5 ends with this answer. Its image is 1, 2, 3 if it is whole.
 fn is_joined(side: &mut DownloadSide, len: u32, pieces: &[(&[u8], bool)], end: Added) -> bool {
     side.begin(0x43, 5, len);
     let is_begun = has_image(side, 0x43, 5, None);
@@ -372,6 +476,7 @@ fn is_joined(side: &mut DownloadSide, len: u32, pieces: &[(&[u8], bool)], end: A
         && has_image(side, 0x45, 5, None)
 }
 
+/// Images are joined from their pieces, or dropped.
 #[test]
 fn images_are_joined(rt: HostRuntime) {
     let mut side = DownloadSide::new(rt.alloc(), 8).expect(&rt, "there is memory");
@@ -380,11 +485,12 @@ fn images_are_joined(rt: HostRuntime) {
     }
 }
 
-/// Whether a client says this to a slice, and has this image then.
+/// Reports whether a client answers a slice so, and has this image after that.
 fn takes(client: &mut BlockClient, octets: &[u8], more: bool, answer: Added, image: &[u8]) -> bool {
     client.is_awaiting() && client.add(octets, more) == answer && client.image() == image
 }
 
+/// A client joins an image from two slices.
 #[test]
 fn a_client_joins_slices(rt: HostRuntime) {
     let mut client = BlockClient::new(rt.alloc(), 8).expect(&rt, "there is memory");

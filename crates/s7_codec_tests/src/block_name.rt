@@ -1,11 +1,13 @@
+//! Tests of the names of blocks in telegrams, and of numbers in decimal digits.
 use s7_block::{BlockName, NAME, read_digits, read_name, write_digits, write_name};
 
-/// Where a name says that its block is.
+/// The last octet of the name of an active block.
 const ACTIVE: u8 = 0x41;
 
+/// The last octet of the name of a passive block.
 const PASSIVE: u8 = 0x50;
 
-/// Names in telegrams: the octets, where the block is, its kind and its number.
+/// Names in telegrams: the octets, the last octet that is awaited, the kind and the number of the block.
 const NAMES: &[(&[u8; NAME], u8, u8, u16)] = &[
     (b"0800001A", ACTIVE, 0x38, 1),
     (b"0A00001A", ACTIVE, 0x41, 1),
@@ -25,17 +27,19 @@ const NAMES: &[(&[u8; NAME], u8, u8, u16)] = &[
     (b"0A12345P", PASSIVE, 0x41, 12_345),
 ];
 
+/// Reports whether octets are read as this name.
 fn is_read(octets: &[u8], place: u8, name: Option<BlockName>) -> bool {
     read_name(octets, place) == name
 }
 
+/// Reports whether a name is written as these octets.
 fn is_written(name: BlockName, place: u8, octets: &[u8; NAME]) -> bool {
     let mut written = [0xEE; NAME];
     write_name(name, place, &mut written);
     written == *octets
 }
 
-/// Whether these octets are a block's name at its place, but not at the other.
+/// Reports whether these octets are the name of a block that is active or passive, but not of one that is the other.
 fn is_name(octets: &[u8; NAME], place: u8, name: BlockName) -> bool {
     let other = if place == ACTIVE { PASSIVE } else { ACTIVE };
     is_written(name, place, octets)
@@ -43,6 +47,7 @@ fn is_name(octets: &[u8; NAME], place: u8, name: BlockName) -> bool {
         && is_read(octets, other, None)
 }
 
+/// Names are read with the last octet that is awaited, and written.
 #[test]
 fn names_are_read_at_their_places_and_written(rt: HostRuntime) {
     for &(octets, place, kind, number) in NAMES {
@@ -50,25 +55,26 @@ fn names_are_read_at_their_places_and_written(rt: HostRuntime) {
     }
 }
 
-/// Octets that name no active block.
+/// Octets that aren't the name of an active block.
 const NO_NAMES: &[&[u8]] = &[
     b"0A65536A", // number 65,536
     b"0A99999A", // number 99,999
     b"0A00A01A", // a letter
     b"0A/0001A", // the octet before 0
-    b"0A0000:A", // the octet behind 9
+    b"0A0000:A", // the octet after 9
     b"1A00001A", // first octet 31
     b"\x00A00001A", // first octet 00
-    b"0A00001P", // place 50
-    b"0A00001B", // place 42
+    b"0A00001P", // last octet 50
+    b"0A00001B", // last octet 42
     b"0A0001A", // 7 octets
     b"0A000001A", // 9 octets
-    b"0A00001AA", // 9 octets, the last behind the place
+    b"0A00001AA", // 9 octets, one after the last
     b"0900001A", // kind 39
     b"0G00001A", // kind 47
     b"", // none
 ];
 
+/// Other octets aren't read as a name.
 #[test]
 fn other_octets_name_no_block(rt: HostRuntime) {
     for &octets in NO_NAMES {
@@ -90,11 +96,12 @@ const NUMBERS: &[(&[u8], u32)] = &[
     (b"999999999", 999_999_999),
 ];
 
+/// Reports whether digits, at most nine, are read as this number.
 fn is_number(digits: &[u8], number: Option<u32>) -> bool {
     digits.len() <= 9 && read_digits(digits) == number
 }
 
-/// Whether as many of a number's last digits are these.
+/// Reports whether these are the last digits of a number, at most nine.
 fn are_last(digits: &[u8], number: u32) -> bool {
     let mut written = [0xEE; 9];
     if digits.len() > 9 {
@@ -104,6 +111,7 @@ fn are_last(digits: &[u8], number: u32) -> bool {
     written.starts_with(digits)
 }
 
+/// Digits are read as their numbers, and numbers are written in digits.
 #[test]
 fn digits_are_read_and_written(rt: HostRuntime) {
     for &(digits, number) in NUMBERS {
@@ -112,6 +120,7 @@ fn digits_are_read_and_written(rt: HostRuntime) {
     assert!(rt; are_last(b"67295", u32::MAX));
 }
 
+/// Five octets of which one isn't a digit aren't a number.
 #[test]
 fn octets_that_are_no_digits_are_no_number(rt: HostRuntime) {
     for octet in [0x00, 0x2F, 0x3A, 0x41, 0xFF] {

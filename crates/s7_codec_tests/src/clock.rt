@@ -1,3 +1,4 @@
+//! Tests of clocks and controls: moments and their octets, and the parameters of controls.
 ghost use Rattle.std.specs.Prelude.{◌≤◌, length};
 ghost use Rattle.s7_clock.specs.Control.{control_spelling};
 
@@ -9,8 +10,8 @@ use s7_clock::{
 /// 2024-02-29, a Thursday, at 13:45:30.123.
 const LEAP_DAY: [u8; 10] = *b"\x00\x19\x24\x02\x29\x13\x45\x30\x12\x35";
 
-/// The clock octets of a moment before the year 2096. There are none where its date is outside the clock's range, or
-/// where the date or its octets don't give back what they were made of.
+/// The clock octets of a moment before the year 2096. There are none if its date is outside of the clock's range, the
+/// date doesn't give the moment back, or the octets don't give the date back.
 pub(crate) fn octets_of(ms: u64) -> Option<[u8; 10]> {
     if ms > 4_000_000_000_000 {
         return None;
@@ -46,6 +47,7 @@ const MOMENTS: &[(u64, [u8; 10])] = &[
     ),
 ];
 
+/// Moments have the clock octets of the rows, which give them back.
 #[test]
 fn moments_have_clock_octets(rt: HostRuntime) {
     for &(ms, octets) in MOMENTS {
@@ -53,18 +55,19 @@ fn moments_have_clock_octets(rt: HostRuntime) {
     }
 }
 
-/// Whether the octets are a date, and it is that of the others.
+/// Reports whether the octets are a date, and the others are the same date.
 fn is_same_date(octets: &[u8], others: &[u8]) -> bool {
     let date = from_octets(octets);
     date.is_ok() && date == from_octets(others)
 }
 
+/// The head and the weekday of clock octets are passed over.
 #[test]
 fn the_head_and_the_weekday_are_passed_over(rt: HostRuntime) {
     assert!(rt; is_same_date(b"\x77\x20\x24\x02\x29\x13\x45\x30\x12\x3F", &LEAP_DAY));
 }
 
-/// Octets that are no date.
+/// Octets that aren't a date.
 const NO_DATES: &[&[u8]] = &[
     b"\x00\x19\x24\x02\x29\x13\x45\x30\x12",
     b"\x00\x19\x24\x02\x29\x13\x45\x30\x12\x35\x00",
@@ -79,18 +82,20 @@ const NO_DATES: &[&[u8]] = &[
     b"\x00\x19\x24\x02\x29\x13\x45\x30\x12\xA5",
 ];
 
+/// Reports whether octets aren't read as a date.
 fn is_no_date(octets: &[u8]) -> bool {
     from_octets(octets) == Err(NotDate)
 }
 
+/// Octets that aren't a date are refused.
 #[test]
-fn what_is_no_date_is_refused(rt: HostRuntime) {
+fn octets_of_no_date_are_refused(rt: HostRuntime) {
     for &octets in NO_DATES {
         assert!(rt; is_no_date(octets));
     }
 }
 
-/// Milliseconds since 1970, and the moments that they are held to.
+/// Milliseconds since 1970, and the moments of the clock's range to which they are held.
 const HELD: &[(i64, u64)] = &[
     (i64::MIN, 631_152_000_000),
     (631_151_999_999, 631_152_000_000),
@@ -100,6 +105,7 @@ const HELD: &[(i64, u64)] = &[
     (i64::MAX, 3_786_911_999_999),
 ];
 
+/// Moments are held within the range of a clock.
 #[test]
 fn moments_are_held(rt: HostRuntime) {
     for &(ms, held) in HELD {
@@ -107,6 +113,7 @@ fn moments_are_held(rt: HostRuntime) {
     }
 }
 
+/// The clock octets of a moment of each day give the moment back.
 #[test]
 fn each_day_goes_back(rt: HostRuntime) {
     for day in 7_305..43_830u64 {
@@ -114,7 +121,7 @@ fn each_day_goes_back(rt: HostRuntime) {
     }
 }
 
-/// Whether the control has these parameters, and they are read as it.
+/// Reports whether the control is written as these parameters, and they are read as this control.
 fn has_params(control: Control, params: &[u8]) -> bool
     requires { length (control_spelling control) ≤ 26 }
 {
@@ -123,6 +130,7 @@ fn has_params(control: Control, params: &[u8]) -> bool
     &into[..len] == params && into[len] == 0xEE && read_control(params) == Ok(control)
 }
 
+/// Controls are written as their parameters, which are read as these controls.
 #[test]
 fn controls_are_read_and_written(rt: HostRuntime) {
     let insert = Control::Insert {
@@ -164,7 +172,7 @@ fn controls_are_read_and_written(rt: HostRuntime) {
     );
 }
 
-/// Parameters that are no control.
+/// Parameters that aren't those of a control.
 const NO_CONTROLS: &[&[u8]] = &[
     b"",
     b"\x28\0\0\0\0\0\0\xFD\0\0\x09P_PROGRA",
@@ -179,12 +187,14 @@ const NO_CONTROLS: &[&[u8]] = &[
     b"\x28\0\0\0\0\0\0\xFD\0\x0A\x01\0\x30\x4100001\x50\x05_DELE",
 ];
 
+/// Reports whether parameters aren't read as a control.
 fn is_no_control(params: &[u8]) -> bool {
     read_control(params) == Err(BadParams)
 }
 
+/// Parameters that aren't those of a control are refused.
 #[test]
-fn what_is_no_control_is_refused(rt: HostRuntime) {
+fn parameters_of_no_control_are_refused(rt: HostRuntime) {
     for &params in NO_CONTROLS {
         assert!(rt; is_no_control(params));
     }

@@ -1,3 +1,4 @@
+//! Tests of TPDUs: what is read and written, fragments that are joined, and messages that are cut.
 ghost use Rattle.std.specs.Prelude.{◌≤◌, length};
 ghost use Rattle.s7_cotp.specs.Spelling.{spelling_of_confirm};
 ghost use Rattle.s7_cotp.specs.Told.{connection_of};
@@ -7,40 +8,43 @@ use s7_cotp::{
     write_connect, write_data, write_disconnect,
 };
 
-/// A connection request of source 1, size 0A, calling 0100, called 0102.
+/// A connect request with the source reference 1, the size code 0A, the calling TSAP 0100 and the called TSAP 0102.
 const REQUEST: [u8; 18] = [
     0x11, 0xE0, 0x00, 0x00, 0x00, 0x01, 0x00, 0xC0, 0x01, 0x0A, 0xC1, 0x02, 0x01, 0x00, 0xC2, 0x02,
     0x01, 0x02,
 ];
 
-/// Its confirm.
+/// The connect confirm that answers it.
 const CONFIRM: [u8; 18] = [
     0x11, 0xD0, 0x00, 0x01, 0x00, 0x01, 0x00, 0xC0, 0x01, 0x0A, 0xC1, 0x02, 0x01, 0x00, 0xC2, 0x02,
     0x01, 0x02,
 ];
 
-/// A CR of 17 octets of a called TSAP.
+/// A connect request whose called TSAP has 17 octets.
 const LONG_TSAP: [u8; 26] = [
     0x19, 0xE0, 0, 0, 0, 1, 0, 0xC2, 0x11, 1, 2, 3, 4, 5, 6, 7, 8, 9, 10, 11, 12, 13, 14, 15, 16,
     17,
 ];
 
+/// The calling TSAP.
 const CALLING: Tsap = Tsap {
     octets: [1, 0, 0, 0, 0, 0, 0, 0, 0, 0, 0, 0, 0, 0, 0, 0],
     len: 2,
 };
 
+/// The called TSAP.
 const CALLED: Tsap = Tsap {
     octets: [1, 2, 0, 0, 0, 0, 0, 0, 0, 0, 0, 0, 0, 0, 0, 0],
     len: 2,
 };
 
+/// A TSAP that isn't there.
 const ABSENT: Tsap = Tsap {
     octets: [0; 16],
     len: 0,
 };
 
-/// What the request and the confirm above say.
+/// The connection that the request asks for.
 const REQUESTED: Connection = Connection {
     dst_ref: 0,
     src_ref: 1,
@@ -50,6 +54,7 @@ const REQUESTED: Connection = Connection {
     called: CALLED,
 };
 
+/// The connection that the confirm grants.
 const CONFIRMED: Connection = Connection {
     dst_ref: 1,
     src_ref: 1,
@@ -59,7 +64,7 @@ const CONFIRMED: Connection = Connection {
     called: CALLED,
 };
 
-/// A request without TSAPs of size 0A, and one of size 07.
+/// A connection without TSAPs, with the size code 0A, which is that of a request without a size.
 const BARE: Connection = Connection {
     dst_ref: 0,
     src_ref: 1,
@@ -69,6 +74,7 @@ const BARE: Connection = Connection {
     called: ABSENT,
 };
 
+/// A connection without TSAPs, with the size code 07.
 const SMALL: Connection = Connection {
     dst_ref: 0,
     src_ref: 1,
@@ -78,7 +84,7 @@ const SMALL: Connection = Connection {
     called: ABSENT,
 };
 
-/// A confirm without TSAPs of size 07.
+/// A confirmed connection without TSAPs, with the size code 07.
 const SMALL_CONFIRMED: Connection = Connection {
     dst_ref: 1,
     src_ref: 1,
@@ -88,19 +94,20 @@ const SMALL_CONFIRMED: Connection = Connection {
     called: ABSENT,
 };
 
+/// The octets of TPDUs, and the TPDUs as which they are read.
 const CONNECTS: &[(&[u8], Tpdu<'static>)] = &[
     (&REQUEST, Tpdu::Connect(REQUESTED)),
     (&CONFIRM, Tpdu::Confirm(CONFIRMED)),
-    // No size.
+    // There is no size.
     (b"\x06\xE0\0\0\0\x01\0", Tpdu::Connect(BARE)),
-    // Octets behind the header.
+    // Octets after the header are passed over.
     (b"\x06\xE0\0\0\0\x01\0\xC0\x01\x07", Tpdu::Connect(BARE)),
-    // The last of two sizes.
+    // The last of two sizes holds.
     (
         b"\x0C\xE0\0\0\0\x01\0\xC0\x01\x0D\xC0\x01\x07",
         Tpdu::Connect(SMALL),
     ),
-    // A parameter that is unknown.
+    // A parameter that is unknown is passed over.
     (
         b"\x0C\xE0\0\0\0\x01\0\xC6\x01\x06\xC0\x01\x07",
         Tpdu::Connect(SMALL),
@@ -112,7 +119,8 @@ const CONNECTS: &[(&[u8], Tpdu<'static>)] = &[
     (b"\x04\x70\0\x01\x02", Tpdu::Reject { cause: 2 }),
 ];
 
-/// Data TPDUs: whether they are the last of a message, and their octets. Only the high bit tells.
+/// Data TPDUs, whether they are the last ones of their messages, and their octets. Only the high bit says whether one
+/// is the last.
 const FRAGMENTS: &[(&[u8], bool, &[u8])] = &[
     (b"\x02\xF0\x80ab", true, b"ab"),
     (b"\x02\xF0\x00", false, b""),
@@ -120,10 +128,12 @@ const FRAGMENTS: &[(&[u8], bool, &[u8])] = &[
     (b"\x02\xF0\xFFa", true, b"a"),
 ];
 
+/// Reports whether octets are read so.
 fn is_read(body: &[u8], wanted: Result<Tpdu<'_>, CotpFault>) -> bool {
     read_tpdu(body) == wanted
 }
 
+/// TPDUs are read from their octets.
 #[test]
 fn tpdus_are_read(rt: HostRuntime) {
     for &(body, tpdu) in CONNECTS {
@@ -134,7 +144,7 @@ fn tpdus_are_read(rt: HostRuntime) {
     }
 }
 
-/// What is no TPDU, and its fault.
+/// Octets that aren't a TPDU, and the faults.
 const OTHERS: &[(&[u8], CotpFault)] = &[
     (b"", CotpFault::BadCode),
     (b"\x02", CotpFault::BadCode),
@@ -145,7 +155,7 @@ const OTHERS: &[(&[u8], CotpFault)] = &[
     (b"\x05\xE0\0\0\0\x01\0", CotpFault::ShortHeader),
     (b"\x07\xE0\0\0\0\x01\0", CotpFault::ShortHeader),
     (b"\x03\x70\0\x01\x02", CotpFault::ShortHeader),
-    // Sizes of 06 and 0E, and of two octets, and one before a good one.
+    // The size code is 06 or 0E, has two octets, or stands before a good one.
     (b"\x09\xE0\0\0\0\x01\0\xC0\x01\x06", CotpFault::BadParameter),
     (b"\x09\xE0\0\0\0\x01\0\xC0\x01\x0E", CotpFault::BadParameter),
     (
@@ -156,13 +166,14 @@ const OTHERS: &[(&[u8], CotpFault)] = &[
         b"\x0C\xE0\0\0\0\x01\0\xC0\x01\x06\xC0\x01\x0A",
         CotpFault::BadParameter,
     ),
-    // A TSAP of no octets and one of 17.
+    // A TSAP has no octets, or 17.
     (b"\x08\xE0\0\0\0\x01\0\xC1\0", CotpFault::BadParameter),
     (&LONG_TSAP, CotpFault::BadParameter),
-    // It passes the header, if not the octets.
+    // A parameter ends after the header, though not after the octets.
     (b"\x08\xE0\0\0\0\x01\0\xC1\x01\x01", CotpFault::BadParameter),
 ];
 
+/// Octets that aren't a TPDU are refused.
 #[test]
 fn others_are_refused(rt: HostRuntime) {
     for &(body, fault) in OTHERS {
@@ -170,14 +181,19 @@ fn others_are_refused(rt: HostRuntime) {
     }
 }
 
-#[test]
-fn connects_are_written(rt: HostRuntime) {
+/// Reports whether the request is written as its 18 octets, and the octet after them is left.
+fn is_connect() -> bool {
     let mut into = [0xAAu8; 20];
-    let size = write_connect(&REQUESTED, &mut into);
-    assert!(rt; size == 18 && into.starts_with(&REQUEST) && into[18] == 0xAA);
+    write_connect(&REQUESTED, &mut into) == 18 && into.starts_with(&REQUEST) && into[18] == 0xAA
 }
 
-/// Whether a confirm has so many octets, and is written as these.
+/// A connect request is written as its octets.
+#[test]
+fn connects_are_written(rt: HostRuntime) {
+    assert!(rt; is_connect());
+}
+
+/// Reports whether a confirm is written in `size` octets, which the room begins with.
 fn is_confirm(confirm: &Connection, size: usize, octets: &[u8]) -> bool
     requires least_size { 7 ≤ confirm.now.size_code }
     requires most_size { confirm.now.size_code ≤ 13 }
@@ -189,6 +205,7 @@ fn is_confirm(confirm: &Connection, size: usize, octets: &[u8]) -> bool
     write_confirm(confirm, &mut into) == size && into.starts_with(octets)
 }
 
+/// Connect confirms are written as their octets.
 #[test]
 fn confirms_are_written(rt: HostRuntime) {
     let octets = b"\x11\xD0\0\x01\0\x01\0\xC0\x01\x0A\xC1\x02\x01\0\xC2\x02\x01\x02\xAA";
@@ -202,7 +219,7 @@ fn confirms_are_written(rt: HostRuntime) {
     );
 }
 
-/// Whether a data TPDU is written as these eight octets, which were `AA` before.
+/// Reports whether a data TPDU is written in `size` octets, and eight octets that were `AA` are these after that.
 fn is_data(last: bool, user: &[u8], size: usize, octets: &[u8; 8]) -> bool {
     if user.len() > 5 {
         return false;
@@ -211,21 +228,25 @@ fn is_data(last: bool, user: &[u8], size: usize, octets: &[u8; 8]) -> bool {
     write_data(last, user, &mut into) == size && into == *octets
 }
 
+/// Reports whether a disconnect request is written in seven octets, and eight octets that were `AA` are these after
+/// that.
+fn is_disconnect(octets: &[u8; 8]) -> bool {
+    let mut into = [0xAAu8; 8];
+    write_disconnect(1, 0x0203, 0x80, &mut into) == 7 && into == *octets
+}
+
+/// Data TPDUs and a disconnect request are written as their octets.
 #[test]
 fn others_are_written(rt: HostRuntime) {
     assert!(rt;
         is_data(true, b"ab", 5, b"\x02\xF0\x80ab\xAA\xAA\xAA")
             && is_data(false, b"c", 4, b"\x02\xF0\0c\xAA\xAA\xAA\xAA")
     );
-    let mut into = [0xAAu8; 8];
-    assert!(rt;
-        write_disconnect(1, 0x0203, 0x80, &mut into) == 7
-            && into == *b"\x06\x80\0\x01\x02\x03\x80\xAA"
-    );
+    assert!(rt; is_disconnect(b"\x06\x80\0\x01\x02\x03\x80\xAA"));
 }
 
-/// Whether a fragment gets this answer, with this message where it is whole, and whether it then leaves a message
-/// open, of so many octets; `None` where that isn't looked at.
+/// Reports whether a fragment gets this answer, with this message if the answer is `Whole`. If `left` is there, it also
+/// says whether a message is open after the fragment, and the number of the octets that are held.
 fn is_answered(
     joiner: &mut Joiner,
     fragment: (&[u8], bool),
@@ -245,7 +266,8 @@ fn is_answered(
     given == answer && is_left
 }
 
-/// Fragments of messages of at most 20 octets.
+/// Fragments of messages of at most 20 octets with whether each is the last, the answers, the whole messages, and what
+/// is left: whether a message is open, and the number of octets that are held.
 const JOINED: &[((&[u8], bool), Joined, &[u8], Option<(bool, usize)>)] = &[
     (
         (b"\x32\x01\0\0\0", false),
@@ -259,15 +281,16 @@ const JOINED: &[((&[u8], bool), Joined, &[u8], Option<(bool, usize)>)] = &[
         b"\x32\x01\0\0\0\x05\0",
         Some((false, 0)),
     ),
-    // The next message, from a fragment without octets on, up to the limit.
+    // The next message begins with a fragment without octets, and goes up to the limit.
     ((b"", false), Joined::More, b"", Some((true, 0))),
     ((&[7; 20], true), Joined::Whole, &[7; 20], None),
-    // One octet more.
+    // The last message has one octet more.
     ((&[7; 20], false), Joined::More, b"", None),
     ((b"7", true), Joined::TooLong, b"", None),
     ((b"", true), Joined::TooLong, b"", None),
 ];
 
+/// Fragments are joined to messages of at most 20 octets.
 #[test]
 fn fragments_are_joined(rt: HostRuntime) {
     let mut joiner = Joiner::new(rt.alloc(), 20).expect(&rt, "there is memory");
@@ -277,7 +300,7 @@ fn fragments_are_joined(rt: HostRuntime) {
     }
 }
 
-/// How often a fragment comes, its octets, whether it is the last, and the answer.
+/// The number of times that a fragment comes, its octets, whether it is the last, and the answer.
 const MANY: &[(usize, &[u8], bool, Joined)] = &[
     (63, b"a", false, Joined::More),
     (1, b"b", true, Joined::Whole),
@@ -289,6 +312,7 @@ const MANY: &[(usize, &[u8], bool, Joined)] = &[
 /// The message of 64 fragments.
 const WHOLE: &[u8] = b"aaaaaaaaaaaaaaaaaaaaaaaaaaaaaaaaaaaaaaaaaaaaaaaaaaaaaaaaaaaaaaab";
 
+/// A message has at most 64 fragments.
 #[test]
 fn a_message_has_64_fragments(rt: HostRuntime) {
     let mut joiner = Joiner::new(rt.alloc(), 64).expect(&rt, "there is memory");
@@ -299,7 +323,7 @@ fn a_message_has_64_fragments(rt: HostRuntime) {
     }
 }
 
-/// Lengths of messages, TPDU sizes, and where the message is cut.
+/// Lengths of messages, TPDU sizes, and the ranges into which the messages are cut.
 const CUTS: &[(usize, usize, &[(usize, usize)])] = &[
     (0, 128, &[(0, 0)]),
     (125, 128, &[(0, 125)]),
@@ -307,6 +331,7 @@ const CUTS: &[(usize, usize, &[(usize, usize)])] = &[
     (8_190, 8_192, &[(0, 8_189), (8_189, 8_190)]),
 ];
 
+/// Reports whether a message is cut into these ranges.
 fn is_cut(len: usize, tpdu: usize, wanted: &[(usize, usize)]) -> bool {
     if tpdu < 128 || tpdu > 8_192 {
         return false;
@@ -320,6 +345,7 @@ fn is_cut(len: usize, tpdu: usize, wanted: &[(usize, usize)]) -> bool {
     cut.next() == None
 }
 
+/// Messages are cut into the ranges of the rows.
 #[test]
 fn messages_are_cut(rt: HostRuntime) {
     for &(len, tpdu, wanted) in CUTS {

@@ -1,3 +1,4 @@
+//! Tests of the heads of messages: headers, negotiations, grants, and the parameters of user data.
 ghost use Rattle.std.specs.Prelude.{◌≤◌, length};
 ghost use Rattle.s7_header.specs.UserParams.{HasForm, user_spelling};
 
@@ -11,7 +12,7 @@ use s7_header::{
 const NEGOTIATE: &[u8] =
     b"\x32\x01\x00\x00\x00\x04\x00\x08\x00\x00\xF0\x00\x00\x01\x00\x01\x01\xE0";
 
-/// Its acknowledgement.
+/// The acknowledgement of that job.
 const NEGOTIATED: &[u8] =
     b"\x32\x03\x00\x00\x00\x04\x00\x08\x00\x00\x00\x00\xF0\x00\x00\x01\x00\x01\x01\xE0";
 
@@ -22,12 +23,13 @@ const REFUSAL: &[u8] = b"\x32\x02\x00\x00\x00\x01\x00\x00\x00\x00\x85\x00";
 const CLOCK_READ: &[u8] =
     b"\x32\x07\xAB\xCD\x00\x0B\x00\x08\x00\x04\x00\x01\x12\x04\x11\x47\x01\x00\x0A\x00\x00\x00";
 
-/// The parameters of user data that asks for the clock, and of the answer.
+/// The parameters of user data that asks for the clock.
 const CLOCK_ASKED: &[u8] = b"\x00\x01\x12\x04\x11\x47\x01\x00";
 
-const CLOCK_TOLD: &[u8] = b"\x00\x01\x12\x08\x12\x87\x01\x01\x00\x00\x00\x00";
+/// The parameters of user data that answers with the clock.
+const CLOCK_ANSWERED: &[u8] = b"\x00\x01\x12\x08\x12\x87\x01\x01\x00\x00\x00\x00";
 
-/// Messages: the kind, the sequence, the lengths of parameters and body, and the error.
+/// Messages: the octets, the kind, the sequence, the lengths of the parameters and the body, and the error.
 const HEADERS: &[(&[u8], Kind, u16, u16, u16, u16)] = &[
     (NEGOTIATE, Kind::Job, 4, 8, 0, 0),
     (NEGOTIATED, Kind::AckData, 4, 8, 0, 0),
@@ -35,6 +37,7 @@ const HEADERS: &[(&[u8], Kind, u16, u16, u16, u16)] = &[
     (CLOCK_READ, Kind::User, 11, 8, 4, 0),
 ];
 
+/// A header.
 fn header(kind: Kind, sequence: u16, param_len: u16, body_len: u16, error: u16) -> Header {
     Header {
         kind,
@@ -45,10 +48,12 @@ fn header(kind: Kind, sequence: u16, param_len: u16, body_len: u16, error: u16) 
     }
 }
 
+/// Reports whether the header of a message is read so.
 fn is_read(message: &[u8], wanted: Result<Header, HeaderFault>) -> bool {
     read_header(message) == wanted
 }
 
+/// The headers of messages are read.
 #[test]
 fn headers_are_read(rt: HostRuntime) {
     for &(message, kind, sequence, param_len, body_len, error) in HEADERS {
@@ -57,7 +62,7 @@ fn headers_are_read(rt: HostRuntime) {
     }
 }
 
-/// What is no message, and its fault.
+/// Octets that aren't a message, and the faults.
 const BAD_HEADERS: &[(&[u8], HeaderFault)] = &[
     (b"", HeaderFault::Short),
     (b"\x32\x01\x00\x00\x00\x04\x00\x08\x00", HeaderFault::Short),
@@ -87,6 +92,7 @@ const BAD_HEADERS: &[(&[u8], HeaderFault)] = &[
     ),
 ];
 
+/// A message with several faults is refused for the first one.
 #[test]
 fn faults_come_in_order(rt: HostRuntime) {
     for &(message, fault) in BAD_HEADERS {
@@ -94,7 +100,7 @@ fn faults_come_in_order(rt: HostRuntime) {
     }
 }
 
-/// Whether a message has these parameters and this body.
+/// Reports whether a message has these parameters and this body.
 fn has_parts(message: &[u8], params: &[u8], body: &[u8]) -> bool {
     let Ok(header) = read_header(message) else {
         return false;
@@ -103,22 +109,25 @@ fn has_parts(message: &[u8], params: &[u8], body: &[u8]) -> bool {
     params_read == params && body_read == body
 }
 
+/// A message is parted into its parameters and its body.
 #[test]
 fn a_message_has_its_parts(rt: HostRuntime) {
     assert!(rt; has_parts(CLOCK_READ, CLOCK_ASKED, b"\x0A\x00\x00\x00"));
 }
 
-/// Whether a header has so many octets, and stands so in 14 that were `EE` before.
+/// Reports whether a header is written in `len` octets, and 14 octets that were `EE` are these after that.
 fn is_written(header: &Header, len: usize, octets: &[u8; 14]) -> bool {
     let mut into = [0xEE; 14];
     write_header(header, &mut into) == len && into == *octets
 }
 
+/// Reports whether a refusal is written in 12 octets, and 14 octets that were `EE` are these after that.
 fn is_refusal(sequence: u16, error: u16, octets: &[u8; 14]) -> bool {
     let mut into = [0xEE; 14];
     write_refusal(sequence, error, &mut into) == 12 && into == *octets
 }
 
+/// Headers and refusals are written as their octets.
 #[test]
 fn headers_are_written(rt: HostRuntime) {
     let octets = b"\x32\x03\x00\x00\x00\x04\x00\x08\x00\x00\x00\x00\xEE\xEE";
@@ -129,28 +138,32 @@ fn headers_are_written(rt: HostRuntime) {
     assert!(rt; is_refusal(1, 0x8500, octets));
 }
 
+/// A negotiation of one job in each direction and a PDU length of 480.
 const ASKED: Negotiation = Negotiation {
     calling: 1,
     called: 1,
     pdu: 480,
 };
 
-/// Parameters, and the negotiation that they are.
+/// Parameters, and the negotiations as which they are read.
 const NEGOTIATIONS: &[(&[u8], Result<Negotiation, BadParams>)] = &[
     (b"\xF0\x00\x00\x01\x00\x01\x01\xE0", Ok(ASKED)),
     (b"\xF0\x00\x00\x01\x00\x01\x01", Err(BadParams)),
     (b"\xF1\x00\x00\x01\x00\x01\x01\xE0", Err(BadParams)),
 ];
 
+/// Reports whether parameters are read as this negotiation.
 fn is_negotiation(params: &[u8], wanted: Result<Negotiation, BadParams>) -> bool {
     read_negotiate(params) == wanted
 }
 
+/// Reports whether a negotiation is written in eight octets, and nine octets that were `EE` are these after that.
 fn is_negotiation_written(negotiation: &Negotiation, octets: &[u8; 9]) -> bool {
     let mut into = [0xEE; 9];
     write_negotiate(negotiation, &mut into) == 8 && into == *octets
 }
 
+/// Negotiations are read and written.
 #[test]
 fn negotiations_are_read_and_written(rt: HostRuntime) {
     for &(params, wanted) in NEGOTIATIONS {
@@ -160,7 +173,7 @@ fn negotiations_are_read_and_written(rt: HostRuntime) {
     assert!(rt; is_negotiation_written(&ASKED, octets));
 }
 
-/// Jobs calling and called and the PDU length: what is asked, and what is granted.
+/// The numbers of calling and of called jobs and the PDU lengths that are asked for, and those that are granted.
 const GRANTS: &[([u16; 3], Result<[u16; 3], TooSmall>)] = &[
     ([1, 1, 63], Err(TooSmall)),
     ([0, 8, 64], Ok([1, 8, 64])),
@@ -170,6 +183,7 @@ const GRANTS: &[([u16; 3], Result<[u16; 3], TooSmall>)] = &[
     ([0xFFFF, 3, 0xFFFF], Ok([8, 3, 1_920])),
 ];
 
+/// What is granted.
 fn granted(asked: [u16; 3]) -> Result<[u16; 3], TooSmall> {
     let [calling, called, pdu] = asked;
     let granted = grant(&Negotiation {
@@ -180,6 +194,7 @@ fn granted(asked: [u16; 3]) -> Result<[u16; 3], TooSmall> {
     Ok([granted.calling, granted.called, granted.pdu])
 }
 
+/// Grants stay within the limits.
 #[test]
 fn grants_stay_within_the_limits(rt: HostRuntime) {
     for &(asked, wanted) in GRANTS {
@@ -187,6 +202,7 @@ fn grants_stay_within_the_limits(rt: HostRuntime) {
     }
 }
 
+/// The parameters of a question for the clock.
 const CLOCK_QUESTION: UserParams = UserParams {
     answer: false,
     group: 0x47,
@@ -197,6 +213,7 @@ const CLOCK_QUESTION: UserParams = UserParams {
     error: 0,
 };
 
+/// The parameters of the answer to that question.
 const CLOCK_ANSWER: UserParams = UserParams {
     answer: true,
     group: 0x87,
@@ -207,19 +224,20 @@ const CLOCK_ANSWER: UserParams = UserParams {
     error: 0,
 };
 
-/// Octets, and the parameters of user data that they are.
+/// Octets, and the parameters of user data as which they are read.
 const USERS: &[(&[u8], Result<UserParams, BadParams>)] = &[
     (CLOCK_ASKED, Ok(CLOCK_QUESTION)),
-    (CLOCK_TOLD, Ok(CLOCK_ANSWER)),
+    (CLOCK_ANSWERED, Ok(CLOCK_ANSWER)),
     (b"\x00\x01\x12\x04\x11\x47\x01", Err(BadParams)),
     (b"\x00\x01\x12\x08\x12\x87\x01\x01", Err(BadParams)),
 ];
 
+/// Reports whether octets are read as these parameters of user data.
 fn is_user(params: &[u8], wanted: Result<UserParams, BadParams>) -> bool {
     read_user(params) == wanted
 }
 
-/// Whether the parameters have so many octets, and stand so in 13 that were `EE` before.
+/// Reports whether the parameters are written in `len` octets, and 13 octets that were `EE` are these after that.
 fn is_user_written(params: &UserParams, len: usize, octets: &[u8; 13]) -> bool
     requires form { HasForm params.now }
     requires room { length (user_spelling params.now) ≤ 13 }
@@ -228,6 +246,7 @@ fn is_user_written(params: &UserParams, len: usize, octets: &[u8; 13]) -> bool
     write_user(params, &mut into) == len && into == *octets
 }
 
+/// The parameters of user data are read and written.
 #[test]
 fn user_parameters_are_read_and_written(rt: HostRuntime) {
     for &(params, wanted) in USERS {

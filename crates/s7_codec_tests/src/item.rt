@@ -1,9 +1,11 @@
+//! Tests of items: their words, the lists of items of a telegram, data items, and the sizes of requests and answers.
 use s7_item::{
     DataFault, DataItems, DataPlace, Item, ItemFault, Items, answer_size, carries, is_good,
     padding_of, read_data_items, read_items, request_size, size_of, stated_length, transport_of,
     write_data_item, write_items,
 };
 
+/// Four bytes of data block 1.
 const BYTES: Item = Item {
     area: 0x84,
     db: 1,
@@ -27,10 +29,12 @@ const WORDS: &[(u8, Option<u16>, u8)] = &[
     (0x09, None, 0x00),
 ];
 
+/// Reports whether a word has this size and this transport size.
 fn has_sizes(word: u8, size: Option<u16>, transport: u8) -> bool {
     size_of(word) == size && transport_of(word) == transport
 }
 
+/// Words have the sizes and the transport sizes of the rows.
 #[test]
 fn words_have_sizes_and_transport_sizes(rt: HostRuntime) {
     for &(word, size, transport) in WORDS {
@@ -38,6 +42,7 @@ fn words_have_sizes_and_transport_sizes(rt: HostRuntime) {
     }
 }
 
+/// An item is read from parameters, and written as these.
 #[test]
 fn an_item_is_read_and_written(rt: HostRuntime) {
     let params = b"\x04\x01\x12\x0A\x10\x02\x00\x04\x00\x01\x84\x00\x00\x00";
@@ -71,13 +76,14 @@ const BAD_ITEMS: &[(&[u8], ItemFault)] = &[
     ),
 ];
 
-/// Whether the parameters have this fault, and leave no items where one was before.
+/// Reports whether the parameters have this fault, and leave no items in a list that had one.
 fn have_fault(params: &[u8], fault: ItemFault) -> bool {
     let mut items = Items::new();
     items.push(BYTES);
     read_items(params, &mut items) == Err(fault) && items.is_empty()
 }
 
+/// Parameters without items are refused, and leave none.
 #[test]
 fn items_are_refused(rt: HostRuntime) {
     for &(params, fault) in BAD_ITEMS {
@@ -85,7 +91,7 @@ fn items_are_refused(rt: HostRuntime) {
     }
 }
 
-/// The place of a data item, among as many as are said to be there.
+/// The place of the data item of this number, of `count` data items.
 fn place_of(octets: &[u8], count: usize, number: usize) -> Option<DataPlace> {
     let mut places = DataItems::new();
     if count > 20 || read_data_items(octets, count, &mut places).is_err() || places.len() != count {
@@ -94,6 +100,7 @@ fn place_of(octets: &[u8], count: usize, number: usize) -> Option<DataPlace> {
     places.get(number)
 }
 
+/// Three data items are found at their places.
 #[test]
 fn data_items_have_their_places(rt: HostRuntime) {
     let octets = b"\x00\x04\x00\x08\xAA\x00\x00\x04\x00\x08\xBB\x00\x00\x04\x00\x08\xCC";
@@ -107,7 +114,7 @@ fn data_items_have_their_places(rt: HostRuntime) {
     }
 }
 
-/// Octets that aren't so many data items, and their fault.
+/// Octets, the number of data items that they aren't, and the fault.
 const BAD_DATA: &[(&[u8], usize, DataFault)] = &[
     (
         b"\x00\x04\x00\x08\xAA\x00\x00\x04\x00\x08",
@@ -122,11 +129,13 @@ const BAD_DATA: &[(&[u8], usize, DataFault)] = &[
     (b"\x00", 0, DataFault::Rest),
 ];
 
+/// Reports whether octets have this fault if this number of data items is read, and no places are left.
 fn have_data_fault(octets: &[u8], count: usize, fault: DataFault) -> bool {
     let mut places = DataItems::new();
     count <= 20 && read_data_items(octets, count, &mut places) == Err(fault) && places.is_empty()
 }
 
+/// Octets that aren't data items are refused, and leave no places.
 #[test]
 fn data_items_are_refused(rt: HostRuntime) {
     for &(octets, count, fault) in BAD_DATA {
@@ -157,6 +166,7 @@ const DATA: &[(u8, u8, &[u8], bool, &[u8])] = &[
     ),
 ];
 
+/// Reports whether a data item is written as these octets.
 fn is_written(code: u8, word: u8, octets: &[u8], last: bool, wanted: &[u8]) -> bool {
     if size_of(word).is_none() || octets.len() > 4 {
         return false;
@@ -166,6 +176,7 @@ fn is_written(code: u8, word: u8, octets: &[u8], last: bool, wanted: &[u8]) -> b
     len == wanted.len() && into.starts_with(wanted)
 }
 
+/// Data items are written as their octets.
 #[test]
 fn data_items_are_written(rt: HostRuntime) {
     for &(code, word, octets, last, wanted) in DATA {
@@ -173,7 +184,7 @@ fn data_items_are_written(rt: HostRuntime) {
     }
 }
 
-/// Transport sizes, counts of octets and the lengths that state them.
+/// Transport sizes, numbers of octets, and the lengths that are stated for them.
 const LENGTHS: &[(u8, usize, usize)] = &[
     (0x03, 1, 1),
     (0x03, 2, 16),
@@ -183,10 +194,12 @@ const LENGTHS: &[(u8, usize, usize)] = &[
     (0x09, 1, 1),
 ];
 
+/// Reports whether this length is stated for `len` octets.
 fn is_stated(transport: u8, len: usize, stated: usize) -> bool {
     len <= 262_140 && stated_length(transport, len) == stated
 }
 
+/// Data items state the lengths of the rows.
 #[test]
 fn lengths_are_stated(rt: HostRuntime) {
     for &(transport, len, stated) in LENGTHS {
@@ -194,19 +207,24 @@ fn lengths_are_stated(rt: HostRuntime) {
     }
 }
 
-#[test]
-fn codes_are_good_or_carry_octets(rt: HostRuntime) {
-    assert!(rt;
-        is_good(0xFF)
-            && !is_good(0x00)
-            && carries(0x00)
-            && !carries(0x0A)
-            && padding_of(3, false) == 1
-            && padding_of(3, true) == 0
-            && padding_of(4, false) == 0
-    );
+/// Reports whether return code FF is good and 00 isn't, and 00 carries octets and 0A doesn't.
+fn codes_are_so() -> bool {
+    is_good(0xFF) && !is_good(0x00) && carries(0x00) && !carries(0x0A)
 }
 
+/// Lengths of data items, whether each is the last, and the numbers of octets that pad them.
+const PADDINGS: &[(usize, bool, usize)] = &[(3, false, 1), (3, true, 0), (4, false, 0)];
+
+/// Return codes are good or carry octets, and data items of odd lengths are padded, except the last.
+#[test]
+fn codes_are_good_or_carry_octets_and_data_items_are_padded(rt: HostRuntime) {
+    assert!(rt; codes_are_so());
+    for &(len, last, padding) in PADDINGS {
+        assert!(rt; padding_of(len, last) == padding);
+    }
+}
+
+/// The sizes of requests and answers of twenty items are foreseen.
 #[test]
 fn sizes_are_foreseen(rt: HostRuntime) {
     let mut items = Items::new();

@@ -20,6 +20,8 @@ mod item;
 #[cfg(test)]
 mod memory;
 #[cfg(test)]
+mod rows;
+#[cfg(test)]
 mod schedule;
 #[cfg(test)]
 mod split;

@@ -1,3 +1,4 @@
+//! Tests of the objects in memory: links, links that fail, buffers, outputs, files, dials, doors, gates and pipes.
 ghost use Rattle.std.specs.Prelude.{◌<◌};
 
 use s7_memory::{
@@ -11,7 +12,17 @@ use s7_outer::{
 use std::alloc::Global;
 use std::sync::Wait;
 
-/// Whether a link answers a receive of at most so many octets, eight at the most, with these.
+/// A call of a link, and its answer.
+enum Call {
+    /// A receive of at most this many octets, from 1 to 8, its answer, and the octets.
+    Receives(usize, Got, &'static [u8]),
+    /// A transmit of these octets, of which there is at least one, and its answer.
+    Transmits(&'static [u8], Sent),
+    /// A look at the clock, and its answer.
+    Looks(Tick),
+}
+
+/// Reports whether a receive has this answer and these octets.
 fn gives<L: Link>(link: &mut L, room: usize, got: Got, octets: &[u8]) -> bool {
     let mut into = [0u8; 8];
     if room == 0 || room > 8 {
@@ -20,78 +31,109 @@ fn gives<L: Link>(link: &mut L, room: usize, got: Got, octets: &[u8]) -> bool {
     link.receive(&mut into[..room]) == got && into.starts_with(octets)
 }
 
-/// Whether a link answers a transmit so.
+/// Reports whether a transmit has this answer.
 fn takes<L: Link>(link: &mut L, octets: &[u8], sent: Sent) -> bool {
     !octets.is_empty() && link.transmit(octets) == sent
 }
 
+/// Reports whether a clock shows this.
 fn is_now<C: Clock>(clock: &mut C, tick: Tick) -> bool {
     clock.now() == tick
 }
 
-/// A link that moves so many octets a call, has room for others, and stands at 7.
+/// Reports whether a link answers a call so.
+fn answers<L: Link + Clock>(link: &mut L, call: &Call) -> bool {
+    match call {
+        Call::Receives(room, got, octets) => gives(link, *room, *got, octets),
+        Call::Transmits(octets, sent) => takes(link, octets, *sent),
+        Call::Looks(tick) => is_now(link, *tick),
+    }
+}
+
+/// Reports whether a link answers all calls so, one after another.
+fn answers_all<L: Link + Clock>(link: &mut L, calls: &[Call]) -> bool {
+    for call in calls {
+        if !answers(link, call) {
+            return false;
+        }
+    }
+    true
+}
+
+/// A link that moves at most `most` octets in a call and has room for `room` octets. Its clock shows 7.
 fn link(alloc: Global, input: &[u8], most: usize, room: usize) -> Result<MemoryLink, Memory>
     requires { 0 < most }
 {
     MemoryLink::new(alloc, Octets::copy_of(alloc, input)?, most, room, 7)
 }
 
-fn has_sent(link: &MemoryLink, octets: &[u8]) -> bool {
-    link.written() == octets
-}
-
-#[test]
-fn a_memory_link_moves_so_many(rt: HostRuntime) {
-    let mut link = link(rt.alloc(), b"abcde", 2, 3).expect(&rt, "there is memory");
-    assert!(rt;
-        gives(&mut link, 8, Got::Bytes(2), b"ab")
-            && gives(&mut link, 1, Got::Bytes(1), b"c")
-            && gives(&mut link, 8, Got::Bytes(2), b"de")
-            && gives(&mut link, 8, Got::End, b"")
-            && gives(&mut link, 8, Got::End, b"")
-            && takes(&mut link, b"xyz!", Sent::Bytes(2))
-    );
-    assert!(rt;
-        takes(&mut link, b"z!", Sent::Bytes(1))
-            && takes(&mut link, b"!", Sent::Failed)
-            && has_sent(&link, b"xyz")
-            && is_now(&mut link, Tick::At(7))
-            && !link.is_shut()
-    );
+/// Reports whether these octets were written on a link, and it is shut exactly after a shutdown.
+fn is_left(link: &mut MemoryLink, octets: &[u8]) -> bool {
+    let is_open = !link.is_shut();
     link.shutdown();
-    assert!(rt; link.is_shut());
+    is_open && link.written() == octets && link.is_shut()
 }
 
-/// A failing link over one that moves an octet a call, gives two and takes one.
-fn failing(alloc: Global, fates: &[Fate]) -> Result<FailingLink<MemoryLink>, Memory> {
+/// The calls of a link that gives `abcde`, two octets in a call, and has room for three.
+const MOVED: &[Call] = &[
+    Call::Receives(8, Got::Bytes(2), b"ab"),
+    Call::Receives(1, Got::Bytes(1), b"c"),
+    Call::Receives(8, Got::Bytes(2), b"de"),
+    Call::Receives(8, Got::End, b""),
+    Call::Receives(8, Got::End, b""),
+    Call::Transmits(b"xyz!", Sent::Bytes(2)),
+    Call::Transmits(b"z!", Sent::Bytes(1)),
+    Call::Transmits(b"!", Sent::Failed),
+    Call::Looks(Tick::At(7)),
+];
+
+/// A link in memory moves at most two octets in a call, and keeps what was written.
+#[test]
+fn a_memory_link_moves_two_octets_in_a_call(rt: HostRuntime) {
+    let mut link = link(rt.alloc(), b"abcde", 2, 3).expect(&rt, "there is memory");
+    assert!(rt; answers_all(&mut link, MOVED) && is_left(&mut link, b"xyz"));
+}
+
+/// What becomes of the first calls of a link that fails.
+const FATES: &[Fate] = &[
+    Fate::NotYet,
+    Fate::Fail,
+    Fate::Pass,
+    Fate::NotYet,
+    Fate::Fail,
+];
+
+/// A failing link over one that moves one octet in a call, gives two and takes one.
+fn failing(alloc: Global) -> Result<FailingLink<MemoryLink>, Memory> {
     let inner = link(alloc, b"ab", 1, 1)?;
-    Ok(FailingLink::new(inner, Vec::from_slice(alloc, fates)?))
+    Ok(FailingLink::new(inner, Vec::from_slice(alloc, FATES)?))
 }
 
+/// The calls of the failing link.
+const FATED: &[Call] = &[
+    Call::Receives(8, Got::NotYet, b""),
+    Call::Transmits(b"x", Sent::Failed),
+    Call::Receives(8, Got::Bytes(1), b"a"),
+    Call::Looks(Tick::At(7)),
+    Call::Looks(Tick::Failed),
+    Call::Transmits(b"x", Sent::Bytes(1)),
+];
+
+/// Reports whether a failing link wrote these octets and is shut after a shutdown.
+fn is_shut(link: &mut FailingLink<MemoryLink>, octets: &[u8]) -> bool {
+    let has_written = link.inner().written() == octets;
+    link.shutdown();
+    has_written && link.inner().is_shut()
+}
+
+/// A failing link counts receives, transmits and looks at the clock alike.
 #[test]
 fn a_failing_link_counts_all_calls(rt: HostRuntime) {
-    let fates = [
-        Fate::NotYet,
-        Fate::Fail,
-        Fate::Pass,
-        Fate::NotYet,
-        Fate::Fail,
-    ];
-    let mut link = failing(rt.alloc(), &fates).expect(&rt, "there is memory");
-    assert!(rt;
-        gives(&mut link, 8, Got::NotYet, b"")
-            && takes(&mut link, b"x", Sent::Failed)
-            && gives(&mut link, 8, Got::Bytes(1), b"a")
-            && is_now(&mut link, Tick::At(7))
-            && is_now(&mut link, Tick::Failed)
-            && takes(&mut link, b"x", Sent::Bytes(1))
-            && has_sent(link.inner(), b"x")
-    );
-    link.shutdown();
-    assert!(rt; link.inner().is_shut());
+    let mut link = failing(rt.alloc()).expect(&rt, "there is memory");
+    assert!(rt; answers_all(&mut link, FATED) && is_shut(&mut link, b"x"));
 }
 
-/// A buffer of room for four octets, with these, where they fit.
+/// A buffer of room for four octets. It holds these, if each part has at most two.
 fn buffer(alloc: Global, first: &[u8], second: &[u8]) -> Result<Buffer, Memory> {
     let mut buffer = Buffer::new(alloc, 4)?;
     if first.len() <= 2 && second.len() <= 2 {
@@ -101,16 +143,18 @@ fn buffer(alloc: Global, first: &[u8], second: &[u8]) -> Result<Buffer, Memory> 
     Ok(buffer)
 }
 
+/// Reports whether a buffer holds these octets and has this room.
 fn holds(buffer: &Buffer, octets: &[u8], room: usize) -> bool {
     buffer.as_slice() == octets && buffer.room() == room
 }
 
-/// Whether these octets are taken out of a buffer.
+/// Reports whether these octets are taken out of a buffer.
 fn are_taken(buffer: &mut Buffer, octets: &[u8]) -> bool {
     let taken = buffer.take();
     taken.as_slice() == octets && taken.into_vec().len() == octets.len()
 }
 
+/// A buffer holds what was added until it is taken.
 #[test]
 fn a_buffer_gives_what_was_added(rt: HostRuntime) {
     let mut buffer = buffer(rt.alloc(), b"ab", b"cd").expect(&rt, "there is memory");
@@ -119,7 +163,7 @@ fn a_buffer_gives_what_was_added(rt: HostRuntime) {
     );
 }
 
-/// Writes an octet into a buffer at its second place, where there are three.
+/// Writes an octet at the second place of a buffer. Reports whether the buffer has three octets.
 fn is_changed(buffer: &mut Buffer, octet: u8) -> bool {
     let octets = buffer.as_mut_slice();
     if octets.len() != 3 {
@@ -129,17 +173,19 @@ fn is_changed(buffer: &mut Buffer, octet: u8) -> bool {
     true
 }
 
+/// The octets of a buffer are changed in place.
 #[test]
 fn a_buffer_is_written_in_place(rt: HostRuntime) {
     let mut buffer = buffer(rt.alloc(), b"ab", b"c").expect(&rt, "there is memory");
     assert!(rt; is_changed(&mut buffer, b'x') && holds(&buffer, b"axc", 4));
 }
 
-/// Whether all octets of a piece are put.
+/// Reports whether an output takes all octets of a piece.
 fn is_put(out: &mut MemoryOut, piece: &[u8]) -> bool {
     out.put(piece).is_ok()
 }
 
+/// An output keeps the octets for which it has room.
 #[test]
 fn an_output_keeps_what_fits(rt: HostRuntime) {
     let mut out = MemoryOut::new(rt.alloc(), 5).expect(&rt, "there is memory");
@@ -148,7 +194,7 @@ fn an_output_keeps_what_fits(rt: HostRuntime) {
     );
 }
 
-/// Whether a read of a file ends so, with these octets.
+/// Reports whether a read has this answer and gives these octets.
 fn reads(
     alloc: Global,
     files: &mut MemoryFiles,
@@ -160,22 +206,20 @@ fn reads(
     files.read(alloc, path, &mut text) == end && text.as_slice() == octets
 }
 
-/// Whether a write of a file ends so.
-fn writes(
-    alloc: Global,
-    files: &mut MemoryFiles,
-    path: &str,
-    octets: &[u8],
-    end: Result<(), FileFault>,
-) -> bool {
-    files.write(alloc, path, octets) == end
+/// A write of octets under a path, and its answer.
+type Write = (&'static str, &'static [u8], Result<(), FileFault>);
+
+/// Reports whether the writes have their answers, one after another.
+fn write_all(alloc: Global, files: &mut MemoryFiles, writes: &[Write]) -> bool {
+    for &(path, octets, end) in writes {
+        if files.write(alloc, path, octets) != end {
+            return false;
+        }
+    }
+    true
 }
 
-fn has_file(files: &MemoryFiles, path: &str, octets: Option<&[u8]>) -> bool {
-    files.get(path) == octets
-}
-
-/// Whether a file is brought in.
+/// Reports whether a file is brought in.
 fn is_inserted(alloc: Global, files: &mut MemoryFiles, path: &str, octets: &[u8]) -> bool {
     let Ok(octets) = Octets::copy_of(alloc, octets) else {
         return false;
@@ -183,31 +227,47 @@ fn is_inserted(alloc: Global, files: &mut MemoryFiles, path: &str, octets: &[u8]
     files.insert(alloc, path, octets).is_ok()
 }
 
-/// Files that fail at the fourth call, of which two are made here.
-fn files(alloc: Global) -> Option<MemoryFiles> {
-    let mut files = MemoryFiles::new();
-    let is_made = reads(alloc, &mut files, "a", Err(FileFault::Failed), b"")
-        && is_inserted(alloc, &mut files, "a", b"one")
-        && reads(alloc, &mut files, "a", Ok(()), b"one");
+/// The third call of the files and the next ones. The fourth fails.
+const WRITES: &[Write] = &[
+    ("b", b"two", Ok(())),
+    ("b", b"three", Err(FileFault::Failed)),
+    ("c", b"four", Ok(())),
+];
+
+/// Reports whether a file is read exactly after it was brought in, and the fourth call fails, which is made to fail.
+fn fail_at_fourth(alloc: Global, files: &mut MemoryFiles) -> bool {
+    let is_read = reads(alloc, files, "a", Err(FileFault::Failed), b"")
+        && is_inserted(alloc, files, "a", b"one")
+        && reads(alloc, files, "a", Ok(()), b"one");
     files.fail_at(3);
-    if is_made { Some(files) } else { None }
+    is_read && write_all(alloc, files, WRITES)
 }
 
+/// Paths, and the octets of their files.
+const FILES_LEFT: &[(&str, Option<&[u8]>)] = &[
+    ("b", Some(b"two")),
+    ("c", Some(b"four")),
+    ("d", None),
+];
+
+/// Reports whether each path has the octets of its row.
+fn are_left(files: &MemoryFiles) -> bool {
+    for &(path, octets) in FILES_LEFT {
+        if files.get(path) != octets {
+            return false;
+        }
+    }
+    true
+}
+
+/// Files in memory fail at the call that is to fail, and at no other.
 #[test]
 fn files_in_memory_fail_at_the_call(rt: HostRuntime) {
-    let alloc = rt.alloc();
-    let mut files = files(alloc).expect(&rt, "the files are made");
-    assert!(rt;
-        writes(alloc, &mut files, "b", b"two", Ok(()))
-            && writes(alloc, &mut files, "b", b"three", Err(FileFault::Failed))
-            && writes(alloc, &mut files, "c", b"four", Ok(()))
-            && has_file(&files, "b", Some(b"two"))
-            && has_file(&files, "c", Some(b"four"))
-            && has_file(&files, "d", None)
-    );
+    let mut files = MemoryFiles::new();
+    assert!(rt; fail_at_fourth(rt.alloc(), &mut files) && are_left(&files));
 }
 
-/// The link of a call, if it comes off.
+/// The link of a call, if the call succeeds.
 fn called(dial: &mut MemoryDial<u8>) -> Option<u8> {
     match dial.call("host", 102) {
         Dialled::Link(link) => Some(link),
@@ -215,13 +275,14 @@ fn called(dial: &mut MemoryDial<u8>) -> Option<u8> {
     }
 }
 
+/// A dial in memory gives its link once.
 #[test]
 fn a_dial_in_memory_gives_its_link_once(rt: HostRuntime) {
     let mut dial = MemoryDial::new(Some(b'a'));
     assert!(rt; called(&mut dial) == Some(b'a') && called(&mut dial) == None);
 }
 
-/// Whether a door gives this link, fails where it is `!`, and ends where it is `.`.
+/// Reports whether a door gives this link. The link `!` is a failure of the door, and `.` its end.
 fn gives_next(door: &mut MemoryDoor<u8>, wanted: u8) -> bool {
     match door.next() {
         Arrival::Link(link) => link == wanted && wanted != b'!' && wanted != b'.',
@@ -235,73 +296,89 @@ fn door(alloc: Global) -> Result<MemoryDoor<u8>, Memory> {
     Ok(MemoryDoor::new(Vec::from_slice(alloc, b"ab")?, Some(1)))
 }
 
+/// Reports whether a door listens, and gives the links `wanted`.
+fn gives_links(door: &mut MemoryDoor<u8>, wanted: &[u8]) -> bool {
+    let listens = door.listen(102).is_ok();
+    for link in wanted {
+        if !gives_next(door, *link) {
+            return false;
+        }
+    }
+    listens
+}
+
+/// A door in memory gives its links, fails once, and ends.
 #[test]
 fn a_door_in_memory_gives_its_links(rt: HostRuntime) {
     let mut door = door(rt.alloc()).expect(&rt, "there is memory");
-    assert!(rt; door.listen(102).is_ok());
-    for wanted in [b'a', b'!', b'b', b'.', b'.'] {
-        assert!(rt; gives_next(&mut door, wanted));
-    }
+    assert!(rt; gives_links(&mut door, b"a!b.."));
 }
 
+/// Passes a gate that other threads may pass.
 fn pass_shared<R: Wait, G: Gate + Sync>(rt: &R, gate: &G, link: u32, ordinal: u64) {
     gate.pass(rt, link, ordinal);
 }
 
+/// Links and the numbers of their requests that pass a gate, and whether the gate gave up by then. The gate keeps link
+/// 1 at its first request until the second request of link 2 came.
+const PASSES: &[&[(u32, u64, bool)]] = &[
+    &[(2, 0, false), (1, 1, false), (1, 0, true)],
+    &[(2, 1, false), (1, 0, false)],
+];
+
+/// Reports whether a gate gives up where a row says so.
+fn keeps<R: Wait>(rt: &R, passes: &[(u32, u64, bool)]) -> bool {
+    let gate = HoldGate::new(1, 2, 3);
+    for &(link, ordinal, gave_up) in passes {
+        pass_shared(rt, &gate, link, ordinal);
+        if gate.gave_up() != gave_up {
+            return false;
+        }
+    }
+    true
+}
+
+/// A gate delays a link until the request of the other one came, or gives up.
 #[test]
 fn a_gate_holds_until_the_other_came(rt: HostRuntime) {
     pass_shared(&rt, &OpenGate, 1, 0);
-    let gate = HoldGate::new(1, 2, 3);
-    pass_shared(&rt, &gate, 2, 0);
-    pass_shared(&rt, &gate, 1, 1);
-    assert!(rt; !gate.gave_up());
-    pass_shared(&rt, &gate, 1, 0);
-    assert!(rt; gate.gave_up());
-    let gate = HoldGate::new(1, 2, 3);
-    pass_shared(&rt, &gate, 2, 1);
-    pass_shared(&rt, &gate, 1, 0);
-    assert!(rt; !gate.gave_up());
+    for passes in PASSES {
+        assert!(rt; keeps(&rt, passes));
+    }
 }
 
-/// What is done at an end of pipes: its side, and a receive of so many octets or a transmit.
-fn end_gives(pipes: &mut Pipes, side: Side, room: usize, got: Got, octets: &[u8]) -> bool {
-    gives(&mut PipeEnd { pipes, side }, room, got, octets)
+/// Calls of the ends of pipes with room for four octets, and the numbers of octets that wait for the server and for the
+/// client then. The room is used across its end.
+const PIPED: &[(Side, Call, usize, usize)] = &[
+    (Side::Client, Call::Receives(8, Got::NotYet, b""), 0, 0),
+    (Side::Client, Call::Transmits(b"abc", Sent::Bytes(3)), 3, 0),
+    (Side::Client, Call::Looks(Tick::At(7)), 3, 0),
+    (Side::Server, Call::Receives(2, Got::Bytes(2), b"ab"), 1, 0),
+    (Side::Client, Call::Transmits(b"defg", Sent::Bytes(3)), 4, 0),
+    (Side::Client, Call::Transmits(b"g", Sent::NotYet), 4, 0),
+    (
+        Side::Server,
+        Call::Receives(8, Got::Bytes(4), b"cdef"),
+        0,
+        0,
+    ),
+];
+
+/// Reports whether the end of pipes answers a call so.
+fn end_answers(pipes: &mut Pipes, side: Side, call: &Call) -> bool {
+    answers(&mut PipeEnd { pipes, side }, call)
 }
 
-fn end_takes(pipes: &mut Pipes, octets: &[u8], sent: Sent) -> bool {
-    let side = Side::Client;
-    takes(&mut PipeEnd { pipes, side }, octets, sent)
-}
-
-/// Whether so many octets wait for the server, and for the client.
+/// Reports whether these numbers of octets wait for the server and for the client.
 fn are_held(pipes: &Pipes, server: usize, client: usize) -> bool {
     pipes.held(Side::Server) == server && pipes.held(Side::Client) == client
 }
 
+/// Pipes move the octets for which they have room.
 #[test]
 fn pipes_move_what_fits(rt: HostRuntime) {
     let mut pipes = Pipes::new(rt.alloc(), 4, 7).expect(&rt, "there is memory");
-    assert!(rt;
-        end_gives(&mut pipes, Side::Client, 8, Got::NotYet, b"")
-            && end_takes(&mut pipes, b"abc", Sent::Bytes(3))
-    );
-    let side = Side::Client;
-    assert!(rt;
-        is_now(
-            &mut PipeEnd {
-                pipes: &mut pipes,
-                side
-            },
-            Tick::At(7)
-        )
-    );
-    assert!(rt; end_gives(&mut pipes, Side::Server, 2, Got::Bytes(2), b"ab"));
-    // The room is used across its end.
-    assert!(rt;
-        end_takes(&mut pipes, b"defg", Sent::Bytes(3))
-            && end_takes(&mut pipes, b"g", Sent::NotYet)
-            && are_held(&pipes, 4, 0)
-            && end_gives(&mut pipes, Side::Server, 8, Got::Bytes(4), b"cdef")
-            && are_held(&pipes, 0, 0)
-    );
+    for (side, call, server, client) in PIPED {
+        assert!(rt; end_answers(&mut pipes, *side, call) && are_held(&pipes, *server, *client));
+    }
 }

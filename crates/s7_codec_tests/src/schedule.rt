@@ -1,6 +1,7 @@
+//! Tests of the numbers that a schedule draws.
 use s7_schedule::Draw;
 
-/// Seeds, and the numbers drawn. They are the first of the C standard's example of `rand`, whose x goes on by the
+/// Seeds, and the numbers that are drawn. They are the first ones of the C standard's example of `rand`, which has the
 /// same congruence, modulo 2^31.
 const NUMBERS: &[(u32, [u32; 5])] = &[
     (0, [0, 21_468, 9_988, 22_117, 3_498]),
@@ -8,6 +9,7 @@ const NUMBERS: &[(u32, [u32; 5])] = &[
     (2_147_483_648, [0, 21_468, 9_988, 22_117, 3_498]),
 ];
 
+/// The numbers of the rows are drawn.
 #[test]
 fn numbers_are_drawn(rt: HostRuntime) {
     for &(seed, numbers) in NUMBERS {
@@ -18,13 +20,15 @@ fn numbers_are_drawn(rt: HostRuntime) {
     }
 }
 
-/// Counts of actors, and those whose turn it is with the seed 0.
+/// Numbers of actors, and the actors whose turns come with the seed 0.
 const TURNS: &[(usize, [usize; 5])] = &[(2, [0, 0, 0, 1, 0]), (6, [0, 0, 4, 1, 0])];
 
+/// Reports whether the next turn is that of this actor.
 fn is_turn(draw: &mut Draw, actors: usize, actor: usize) -> bool {
     actors > 0 && draw.actor(actors) == actor
 }
 
+/// The turns of the rows are drawn.
 #[test]
 fn actors_are_drawn(rt: HostRuntime) {
     for &(actors, turns) in TURNS {

@@ -1,3 +1,4 @@
+//! Tests of items that are split into parts, and of items that are packed into groups.
 ghost use Rattle.std.specs.Prelude.{◌≡◌, ◌<◌, ◌≤◌, ◌^◌, IsSome};
 ghost use Rattle.s7_item.specs.Word.{size_of};
 ghost use Rattle.s7_split.specs.Parts.{range_end};
@@ -5,6 +6,7 @@ ghost use Rattle.s7_split.specs.Parts.{range_end};
 use s7_item::Item;
 use s7_split::{Groups, PackFault, pack, parts};
 
+/// One byte of data block 1.
 const BYTES: Item = Item {
     area: 0x84,
     db: 1,
@@ -13,7 +15,7 @@ const BYTES: Item = Item {
     address: 0,
 };
 
-/// Whether an item is split into parts of these counts at these addresses.
+/// Reports whether an item is split into parts of these counts at these addresses.
 fn is_split(item: &Item, pdu: u16, write: bool, wanted: &[(u16, u32)]) -> bool
     requires known { IsSome (size_of item.now.word) }
     requires some { 0 < item.now.count }
@@ -35,6 +37,7 @@ fn is_split(item: &Item, pdu: u16, write: bool, wanted: &[(u16, u32)]) -> bool
     parts.next().is_none()
 }
 
+/// A read of 1,000 bytes is split into five parts.
 #[test]
 #[tactic(auto, unfolding(s7_item::specs::Word::size_of))]
 fn a_thousand_bytes_are_five_parts(rt: HostRuntime) {
@@ -46,6 +49,7 @@ fn a_thousand_bytes_are_five_parts(rt: HostRuntime) {
     assert!(rt; is_split(&item, 240, false, &wanted));
 }
 
+/// A read that fills its parts has no empty part.
 #[test]
 #[tactic(auto, unfolding(s7_item::specs::Word::size_of))]
 fn no_part_is_empty(rt: HostRuntime) {
@@ -56,6 +60,7 @@ fn no_part_is_empty(rt: HostRuntime) {
     assert!(rt; is_split(&item, 240, false, &[(222, 0), (222, 1776)]));
 }
 
+/// The greatest PDU takes a read of 1,902 bytes.
 #[test]
 #[tactic(auto, unfolding(s7_item::specs::Word::size_of))]
 fn the_greatest_pdu_takes_1902_bytes(rt: HostRuntime) {
@@ -71,6 +76,7 @@ fn the_greatest_pdu_takes_1902_bytes(rt: HostRuntime) {
     assert!(rt; is_split(&more, 1920, false, &[(1902, 0), (1, 15216)]));
 }
 
+/// The addresses of parts advance by counters, and by bits in other areas.
 #[test]
 #[tactic(auto, unfolding(s7_item::specs::Word::size_of))]
 fn counters_and_words_advance_as_their_areas_do(rt: HostRuntime) {
@@ -91,13 +97,14 @@ fn counters_and_words_advance_as_their_areas_do(rt: HostRuntime) {
     assert!(rt; is_split(&words, 64, true, &[(14, 16), (6, 240)]));
 }
 
-/// Whether items are packed into groups that end there, whatever groups were there before.
+/// Reports whether items are packed into groups with these ends, whatever groups were there before.
 fn are_packed(groups: &mut Groups, items: &[Item], pdu: u16, write: bool, ends: &[u8]) -> bool {
     pack(items, pdu, write, groups) == Ok(())
         && usize::from(groups.count) == ends.len()
         && groups.ends.starts_with(ends)
 }
 
+/// Twenty items are packed into groups, and no items into none.
 #[test]
 fn twenty_bytes_are_packed(rt: HostRuntime) {
     let items = [BYTES; 20];
@@ -109,12 +116,13 @@ fn twenty_bytes_are_packed(rt: HostRuntime) {
     );
 }
 
-/// Whether items can't be packed by this fault, and there are no groups then.
+/// Reports whether items can't be packed for this fault, and there are no groups after that.
 fn have_fault(items: &[Item], pdu: u16, fault: PackFault) -> bool {
     let mut groups = Groups::new();
     pack(items, pdu, false, &mut groups) == Err(fault) && groups.count == 0
 }
 
+/// More than twenty items are refused, and an item that is longer than a PDU.
 #[test]
 fn packing_is_refused(rt: HostRuntime) {
     assert!(rt; have_fault(&[BYTES; 21], 480, PackFault::TooMany));

@@ -1,7 +1,8 @@
-//! Worked octets of a connect request, a negotiation and a read.
+//! Tests of packets: a stream that is cut into them, their faults and limits, and packets that are written.
 
 use s7_tpkt::{Cutter, Fed, FedState, write_packet};
 
+/// A stream of three packets: a connect request, a negotiation and a read.
 const STREAM: [u8; 78] = [
     0x03, 0x00, 0x00, 0x16, 0x11, 0xE0, 0x00, 0x00, 0x00, 0x01, 0x00, 0xC0, 0x01, 0x0A, 0xC1, 0x02,
     0x01, 0x00, 0xC2, 0x02, 0x01, 0x02, //
@@ -11,16 +12,19 @@ const STREAM: [u8; 78] = [
     0x00, 0x04, 0x01, 0x12, 0x0A, 0x10, 0x02, 0x00, 0x04, 0x00, 0x01, 0x84, 0x00, 0x00, 0x00,
 ];
 
+/// The body of the connect request.
 const CONNECT: [u8; 18] = [
     0x11, 0xE0, 0x00, 0x00, 0x00, 0x01, 0x00, 0xC0, 0x01, 0x0A, 0xC1, 0x02, 0x01, 0x00, 0xC2, 0x02,
     0x01, 0x02,
 ];
 
+/// The body of the negotiation.
 const NEGOTIATE: [u8; 21] = [
     0x02, 0xF0, 0x80, 0x32, 0x01, 0x00, 0x00, 0x00, 0x04, 0x00, 0x08, 0x00, 0x00, 0xF0, 0x00, 0x00,
     0x01, 0x00, 0x01, 0x01, 0xE0,
 ];
 
+/// The body of the read.
 const READ: [u8; 27] = [
     0x02, 0xF0, 0x80, 0x32, 0x01, 0x00, 0x00, 0x00, 0x05, 0x00, 0x0E, 0x00, 0x00, 0x04, 0x01, 0x12,
     0x0A, 0x10, 0x02, 0x00, 0x04, 0x00, 0x01, 0x84, 0x00, 0x00, 0x00,
@@ -35,8 +39,8 @@ fn body_of(number: usize) -> &'static [u8] {
     }
 }
 
-/// How many bodies have come out once a piece is fed to its end after so many, and none where one that is not the next
-/// of the stream came out.
+/// The number of bodies that have come out after a piece, of which `before` came out before it. There is none if a body
+/// came out that isn't the next of the stream.
 fn bodies_after(cutter: &mut Cutter, piece: &[u8], before: usize) -> Option<usize> {
     let mut rest = piece;
     let mut count = before;
@@ -54,7 +58,7 @@ fn bodies_after(cutter: &mut Cutter, piece: &[u8], before: usize) -> Option<usiz
     Some(count)
 }
 
-/// Whether the stream in pieces of this many octets gives its three bodies.
+/// Reports whether the stream in pieces of this size gives its three bodies.
 fn gives_bodies(size: usize) -> bool {
     if size == 0 {
         return false;
@@ -70,6 +74,7 @@ fn gives_bodies(size: usize) -> bool {
     count == 3
 }
 
+/// A stream gives the same bodies in pieces of each size.
 #[test]
 fn bodies_are_the_same_for_any_cut(rt: HostRuntime) {
     for size in [1, 23, 78] {
@@ -77,12 +82,12 @@ fn bodies_are_the_same_for_any_cut(rt: HostRuntime) {
     }
 }
 
-/// Whether so many octets of a piece are taken, and it comes to this state.
+/// Reports whether `taken` octets of a piece are taken, and the cutter comes to this state.
 fn comes_to(cutter: &mut Cutter, piece: &[u8], taken: usize, state: FedState) -> bool {
     cutter.feed(piece) == Fed { taken, state }
 }
 
-/// Pieces, how many of their octets are taken, the state that they come to, and the octets held.
+/// Pieces, the numbers of their octets that are taken, the states after them, and the numbers of octets that are held.
 const STATES: &[(&[u8], usize, FedState, usize)] = &[
     (b"", 0, FedState::More, 0),
     (b"\x03\x00\x00", 3, FedState::More, 3),
@@ -97,7 +102,7 @@ const STATES: &[(&[u8], usize, FedState, usize)] = &[
     (b"\x03\x00\xFF\xFF\x02", 4, FedState::TooLong, 4),
 ];
 
-/// Whether a piece comes to a state that stays, where it isn't `More`.
+/// Reports whether a piece leads to a state, which stays after another piece if it isn't `More`.
 fn comes_to_stay(piece: &[u8], taken: usize, state: FedState, held: usize) -> bool {
     let mut cutter = Cutter::new();
     let comes = comes_to(&mut cutter, piece, taken, state) && cutter.held() == held;
@@ -107,6 +112,7 @@ fn comes_to_stay(piece: &[u8], taken: usize, state: FedState, held: usize) -> bo
     comes && comes_to(&mut cutter, &[0x03, 0x00], 0, state) && cutter.held() == held
 }
 
+/// A piece leads to its state at the octet that decides it, and the state stays.
 #[test]
 fn states_come_at_their_octets_and_stay(rt: HostRuntime) {
     for &(piece, taken, state, held) in STATES {
@@ -114,7 +120,7 @@ fn states_come_at_their_octets_and_stay(rt: HostRuntime) {
     }
 }
 
-/// A cutter with this limit, `None` for that which each begins with.
+/// A cutter with this limit. `None` is the limit of a new cutter.
 fn cutter_of(limit: Option<u16>) -> Cutter {
     let mut cutter = Cutter::new();
     match limit {
@@ -124,35 +130,36 @@ fn cutter_of(limit: Option<u16>) -> Cutter {
     cutter
 }
 
-/// Limits, headers, the states that they come to, and how many octets the rest of the packet has.
+/// Limits, headers, the states after them, and the numbers of octets that the rest of the packet has.
 const LIMITS: &[(Option<u16>, &[u8], FedState, usize)] = &[
     (None, b"\x03\x00\x20\x07", FedState::More, 8_195),
     (Some(1_031), b"\x03\x00\x04\x07", FedState::More, 1_027),
     (Some(1_031), b"\x03\x00\x04\x08", FedState::TooLong, 0),
 ];
 
-/// Whether a header comes to this state, and so many octets of ample others are taken where it is `More`.
-fn is_met(limit: Option<u16>, header: &[u8], state: FedState, rest: usize) -> bool {
+/// Reports whether a header leads to this state, and `rest` octets of ample others are taken if it is `More`.
+fn is_kept(limit: Option<u16>, header: &[u8], state: FedState, rest: usize) -> bool {
     let mut cutter = cutter_of(limit);
     comes_to(&mut cutter, header, 4, state)
         && (state != FedState::More
             || comes_to(&mut cutter, &[0xAA; 10_000], rest, FedState::Whole))
 }
 
+/// A packet as long as the limit is whole, and a longer one is refused.
 #[test]
-fn limits_are_met_exactly(rt: HostRuntime) {
+fn limits_are_exact(rt: HostRuntime) {
     for &(limit, header, state, rest) in LIMITS {
-        assert!(rt; is_met(limit, header, state, rest));
+        assert!(rt; is_kept(limit, header, state, rest));
     }
 }
 
-/// Bodies, the headers of their packets, and the packets' lengths.
+/// Bodies, the headers of their packets, and the lengths of the packets.
 const PACKETS: &[(&[u8], &[u8; 4], usize)] = &[
     (&[0x02, 0xF0, 0x80], b"\x03\x00\x00\x07", 7),
     (&[0x02; 508], b"\x03\x00\x02\x00", 512),
 ];
 
-/// Whether a packet of so many octets is this header and the body, and the octets behind it are left.
+/// Reports whether a packet of `size` octets is this header and the body, and the octets after it are left.
 fn is_packet(body: &[u8], header: &[u8; 4], size: usize) -> bool {
     if body.len() < 3 || body.len() > 590 {
         return false;
@@ -165,6 +172,7 @@ fn is_packet(body: &[u8], header: &[u8; 4], size: usize) -> bool {
         && &into[end..end + 2] == [0xAA, 0xAA].as_slice()
 }
 
+/// Packets are written with their headers.
 #[test]
 fn packets_are_written(rt: HostRuntime) {
     for &(body, header, size) in PACKETS {

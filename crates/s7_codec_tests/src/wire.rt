@@ -1,3 +1,4 @@
+//! Tests of octets on a link: messages that go out in packets, inboxes, outboxes and TPDU sizes.
 ghost use Rattle.std.specs.Prelude.{◌<◌};
 
 use s7_memory::MemoryLink;
@@ -5,19 +6,21 @@ use s7_outer::{Got, Memory, Octets, Sent};
 use s7_wire::{Inbox, MOST_MESSAGE, Outbox, PIECE, put_message, tpdu_size};
 use std::alloc::Global;
 
-/// 125 octets, as many as one fragment takes where the TPDU size is 128.
-const FRONT: &[u8] = b"\x32\x03\x00\x00\x00\x05\x00\x02\x00\x74\x00\x00\x04\x01\xFF\x04\x03\x80\
+/// The 125 octets that a fragment takes if the TPDU size is 128.
+const FRAGMENT: &[u8] = b"\x32\x03\x00\x00\x00\x05\x00\x02\x00\x74\x00\x00\x04\x01\xFF\x04\x03\x80\
     ABCDEFGHIJKLMNOPQRSTUVWXYZabcdefghijklmnopqrstuvwxyz0123456789\
     NOPQRSTUVWXYZABCDEFGHIJKLMnopqrstuvwxyzabcdef";
 
-/// 45 octets: with fifteen times the 125 they are a message of 1,920.
-const BACK: &[u8] = b"ABCDEFGHIJKLMNOPQRSTUVWXYZabcdefghijklmnopqrs";
+/// 45 octets. With fifteen times the 125 they are a message of 1,920.
+const REMAINDER: &[u8] = b"ABCDEFGHIJKLMNOPQRSTUVWXYZabcdefghijklmnopqrs";
 
+/// The octets before the 125 in a packet that isn't the last of its message.
 const OPEN: &[u8] = b"\x03\x00\x00\x84\x02\xF0\x00";
 
+/// Five octets.
 const REST: &[u8] = b"\xF0\xF1\xF2\xF3\xF4";
 
-/// The octets of these parts.
+/// The octets of these parts, one after another.
 pub(crate) fn joined(alloc: Global, parts: &[&[u8]]) -> Result<Vec<u8>, Memory> {
     let mut all = Vec::new(alloc);
     for part in parts {
@@ -26,14 +29,14 @@ pub(crate) fn joined(alloc: Global, parts: &[&[u8]]) -> Result<Vec<u8>, Memory> 
     Ok(all)
 }
 
-/// A link that gives this input, at most `most` octets a call, and has room for what may wait.
+/// A link that gives this input, moves at most `most` octets in a call, and has room for 4,096 octets.
 fn line(alloc: Global, input: &[u8], most: usize) -> Result<MemoryLink, Memory>
     requires { 0 < most }
 {
     MemoryLink::new(alloc, Octets::copy_of(alloc, input)?, most, 4_096, 7)
 }
 
-/// What a flush answers, where something is to be sent.
+/// The answer of a flush. There is none if nothing is to be sent.
 fn flushed(outbox: &mut Outbox, line: &mut MemoryLink) -> Option<Sent> {
     if outbox.is_empty() {
         return None;
@@ -41,7 +44,7 @@ fn flushed(outbox: &mut Outbox, line: &mut MemoryLink) -> Option<Sent> {
     Some(outbox.flush(line))
 }
 
-/// What a refill answers, where nothing is left and some octets are asked for.
+/// The answer of a refill. There is none if octets are left, or none are asked for.
 fn refilled(inbox: &mut Inbox, line: &mut MemoryLink, most: usize) -> Option<Got> {
     if !inbox.is_empty() || most == 0 {
         return None;
@@ -49,7 +52,7 @@ fn refilled(inbox: &mut Inbox, line: &mut MemoryLink, most: usize) -> Option<Got
     Some(inbox.refill(line, most))
 }
 
-/// Uses so many octets, where they are there.
+/// Uses `count` octets. Reports whether they were there.
 fn is_advanced(inbox: &mut Inbox, count: usize) -> bool {
     let fits = count <= inbox.as_slice().len();
     if fits {
@@ -58,51 +61,57 @@ fn is_advanced(inbox: &mut Inbox, count: usize) -> bool {
     fits
 }
 
-/// What stands before the last fragment of that message, and before the message as a whole where it is one fragment.
+/// The octets before the last fragment of the longest message.
 const CLOSE: &[u8] = b"\x03\x00\x00\x34\x02\xF0\x80";
 
+/// The octets before the longest message if it is one fragment.
 const WHOLE: &[u8] = b"\x03\x00\x07\x87\x02\xF0\x80";
 
-/// Fifteen times the 125 octets, and the 45.
+/// The parts of the longest message: fifteen times the 125 octets, and the 45.
 const LONGEST: &[&[u8]] = &[
-    FRONT, FRONT, FRONT, FRONT, FRONT, FRONT, FRONT, FRONT, FRONT, FRONT, FRONT, FRONT, FRONT,
-    FRONT, FRONT, BACK,
+    FRAGMENT, FRAGMENT, FRAGMENT, FRAGMENT, FRAGMENT, FRAGMENT, FRAGMENT, FRAGMENT, FRAGMENT,
+    FRAGMENT, FRAGMENT, FRAGMENT, FRAGMENT, FRAGMENT, FRAGMENT, REMAINDER,
 ];
 
-/// Messages with the code of the TPDU size at which they go out, and their packets.
+/// The codes of TPDU sizes, messages that go out at them, and the packets of the messages.
 const MESSAGES: &[(u8, &[&[u8]], &[&[u8]])] = &[
     (
         0x07,
-        &[FRONT, REST],
-        &[OPEN, FRONT, b"\x03\x00\x00\x0C\x02\xF0\x80", REST],
+        &[FRAGMENT, REST],
+        &[OPEN, FRAGMENT, b"\x03\x00\x00\x0C\x02\xF0\x80", REST],
     ),
-    (0x07, &[FRONT], &[b"\x03\x00\x00\x84\x02\xF0\x80", FRONT]),
+    (
+        0x07,
+        &[FRAGMENT],
+        &[b"\x03\x00\x00\x84\x02\xF0\x80", FRAGMENT],
+    ),
     (0x07, &[], &[b"\x03\x00\x00\x07\x02\xF0\x80"]),
     (
         0x0A,
-        &[FRONT, REST],
-        &[b"\x03\x00\x00\x89\x02\xF0\x80", FRONT, REST],
+        &[FRAGMENT, REST],
+        &[b"\x03\x00\x00\x89\x02\xF0\x80", FRAGMENT, REST],
     ),
     (
         0x07,
         LONGEST,
         &[
-            OPEN, FRONT, OPEN, FRONT, OPEN, FRONT, OPEN, FRONT, OPEN, FRONT, OPEN, FRONT, OPEN,
-            FRONT, OPEN, FRONT, OPEN, FRONT, OPEN, FRONT, OPEN, FRONT, OPEN, FRONT, OPEN, FRONT,
-            OPEN, FRONT, OPEN, FRONT, CLOSE, BACK,
+            OPEN, FRAGMENT, OPEN, FRAGMENT, OPEN, FRAGMENT, OPEN, FRAGMENT, OPEN, FRAGMENT, OPEN,
+            FRAGMENT, OPEN, FRAGMENT, OPEN, FRAGMENT, OPEN, FRAGMENT, OPEN, FRAGMENT, OPEN,
+            FRAGMENT, OPEN, FRAGMENT, OPEN, FRAGMENT, OPEN, FRAGMENT, OPEN, FRAGMENT, CLOSE,
+            REMAINDER,
         ],
     ),
     (
         0x0B,
         LONGEST,
         &[
-            WHOLE, FRONT, FRONT, FRONT, FRONT, FRONT, FRONT, FRONT, FRONT, FRONT, FRONT, FRONT,
-            FRONT, FRONT, FRONT, FRONT, BACK,
+            WHOLE, FRAGMENT, FRAGMENT, FRAGMENT, FRAGMENT, FRAGMENT, FRAGMENT, FRAGMENT, FRAGMENT,
+            FRAGMENT, FRAGMENT, FRAGMENT, FRAGMENT, FRAGMENT, FRAGMENT, FRAGMENT, REMAINDER,
         ],
     ),
 ];
 
-/// How many octets a message goes out in, where all of them go in one call.
+/// The number of octets in which a message goes out, if all of them go in one call.
 fn sent(line: &mut MemoryLink, code: u8, message: &[u8]) -> Option<usize> {
     if message.len() > MOST_MESSAGE || code < 7 || code > 13 {
         return None;
@@ -115,7 +124,7 @@ fn sent(line: &mut MemoryLink, code: u8, message: &[u8]) -> Option<usize> {
     }
 }
 
-/// Whether the message goes out in these packets.
+/// Reports whether the message goes out in these packets.
 fn goes_out(alloc: Global, code: u8, message: &[&[u8]], packets: &[&[u8]]) -> Result<bool, Memory> {
     let message = joined(alloc, message)?;
     let packets = joined(alloc, packets)?;
@@ -123,6 +132,7 @@ fn goes_out(alloc: Global, code: u8, message: &[&[u8]], packets: &[&[u8]]) -> Re
     Ok(sent(&mut line, code, &message) == Some(packets.len()) && has_sent(&line, &packets))
 }
 
+/// Messages go out in packets that the TPDU size allows.
 #[test]
 fn messages_go_out_in_fragments(rt: HostRuntime) {
     for &(code, message, packets) in MESSAGES {
@@ -130,8 +140,8 @@ fn messages_go_out_in_fragments(rt: HostRuntime) {
     }
 }
 
-/// Calls of an inbox: how many octets are used first, how many are asked for then, what the refill answers, `None`
-/// where octets are left, and the octets there.
+/// Calls of an inbox: the number of octets that are used first, the number that is asked for after that, the answer of
+/// the refill, which is `None` if octets are left, and the octets in the inbox.
 const CALLS: &[(usize, usize, Option<Got>, &[u8])] = &[
     (0, PIECE, Some(Got::Bytes(3)), b"\x11\x22\x33"),
     (1, PIECE, None, b"\x22\x33"),
@@ -141,7 +151,7 @@ const CALLS: &[(usize, usize, Option<Got>, &[u8])] = &[
     (0, 1, Some(Got::End), b""),
 ];
 
-/// Whether an inbox answers a call so.
+/// Reports whether an inbox answers a call so.
 fn gives(
     inbox: &mut Inbox,
     line: &mut MemoryLink,
@@ -151,6 +161,7 @@ fn gives(
     is_advanced(inbox, used) && refilled(inbox, line, most) == got && inbox.as_slice() == octets
 }
 
+/// An inbox gives the octets that its link gave, and the end.
 #[test]
 fn an_inbox_gives_what_a_link_gave(rt: HostRuntime) {
     let input = b"\x11\x22\x33\x44\x55\x66\x77";
@@ -162,7 +173,7 @@ fn an_inbox_gives_what_a_link_gave(rt: HostRuntime) {
     }
 }
 
-/// An outbox with two bodies, each of 3 to 2,000 octets.
+/// An outbox with two bodies. It is empty if a body has fewer than 3 octets or more than 2,000.
 fn outbox_of(first: &[u8], second: &[u8]) -> Outbox {
     let mut outbox = Outbox::new();
     if first.len() >= 3 && first.len() <= 2_000 && second.len() >= 3 && second.len() <= 2_000 {
@@ -172,7 +183,7 @@ fn outbox_of(first: &[u8], second: &[u8]) -> Outbox {
     outbox
 }
 
-/// Puts a body into an outbox from which all was sent.
+/// Puts a body of 3 to 2,000 octets into an outbox that has sent all. Reports whether both are so.
 fn is_put(outbox: &mut Outbox, body: &[u8]) -> bool {
     let fits = outbox.is_empty() && body.len() >= 3 && body.len() <= 2_000;
     if fits {
@@ -182,16 +193,17 @@ fn is_put(outbox: &mut Outbox, body: &[u8]) -> bool {
     fits
 }
 
+/// Reports whether these are the octets that were written on a link.
 fn has_sent(line: &MemoryLink, octets: &[u8]) -> bool {
     line.written() == octets
 }
 
-/// Whether a flush sends these octets behind those before.
+/// Reports whether a flush sends these octets after those before.
 fn sends(outbox: &mut Outbox, line: &mut MemoryLink, octets: &[u8]) -> bool {
     flushed(outbox, line) == Some(Sent::Bytes(octets.len())) && line.written().ends_with(octets)
 }
 
-/// Whether an outbox from which all was sent sends two octets of another body.
+/// Reports whether an outbox that has sent all sends two octets of another body.
 fn is_used_again(outbox: &mut Outbox, line: &mut MemoryLink) -> bool {
     flushed(outbox, line) == None
         && is_put(outbox, b"\x02\xF0\x80")
@@ -201,30 +213,46 @@ fn is_used_again(outbox: &mut Outbox, line: &mut MemoryLink) -> bool {
 /// The packets of two bodies.
 const BOTH: &[u8] = b"\x03\x00\x00\x07\x02\xF0\x80\x03\x00\x00\x08\x02\xF0\x00\x99";
 
+/// Reports whether flushes send both packets, two octets at a time.
+fn sends_all(outbox: &mut Outbox, line: &mut MemoryLink) -> bool {
+    for piece in BOTH.chunks(2) {
+        if !sends(outbox, line, piece) {
+            return false;
+        }
+    }
+    true
+}
+
+/// An outbox sends the packets of the bodies that were put, and is used again.
 #[test]
 fn an_outbox_sends_what_was_put(rt: HostRuntime) {
     assert!(rt; Outbox::new().is_empty());
     let mut line = line(rt.alloc(), b"", 2).expect(&rt, "there is memory");
     let mut outbox = outbox_of(b"\x02\xF0\x80", b"\x02\xF0\x00\x99");
-    for piece in BOTH.chunks(2) {
-        assert!(rt; sends(&mut outbox, &mut line, piece));
-    }
-    assert!(rt; has_sent(&line, BOTH) && is_used_again(&mut outbox, &mut line));
-}
-
-/// 8,200 octets are more than a receive takes, and less than the link moves in a call.
-#[test]
-fn a_receive_has_room_for_all_that_fits(rt: HostRuntime) {
-    let mut line = line(rt.alloc(), &[7; 8_200], 10_000).expect(&rt, "there is memory");
-    let mut inbox = Inbox::new();
-    assert!(rt; refilled(&mut inbox, &mut line, PIECE) == Some(Got::Bytes(8_192)));
-    // All of them are used, since a refill answers only where nothing is left.
     assert!(rt;
-        is_advanced(&mut inbox, 8_192)
-            && refilled(&mut inbox, &mut line, PIECE) == Some(Got::Bytes(8))
+        sends_all(&mut outbox, &mut line)
+            && has_sent(&line, BOTH)
+            && is_used_again(&mut outbox, &mut line)
     );
 }
 
+/// Reports whether an inbox takes 8,192 octets of a link in the first receive, and 8 in the second. The first ones are
+/// used before the second receive, since a refill answers only if no octets are left.
+fn takes_8192(line: &mut MemoryLink) -> bool {
+    let mut inbox = Inbox::new();
+    refilled(&mut inbox, line, PIECE) == Some(Got::Bytes(8_192))
+        && is_advanced(&mut inbox, 8_192)
+        && refilled(&mut inbox, line, PIECE) == Some(Got::Bytes(8))
+}
+
+/// 8,200 octets are more than a receive takes, and fewer than the link moves in a call.
+#[test]
+fn a_receive_has_room_for_all_that_fits(rt: HostRuntime) {
+    let mut line = line(rt.alloc(), &[7; 8_200], 10_000).expect(&rt, "there is memory");
+    assert!(rt; takes_8192(&mut line));
+}
+
+/// A transmit is offered all octets of an outbox.
 #[test]
 fn a_transmit_is_offered_all_that_waits(rt: HostRuntime) {
     let mut line = line(rt.alloc(), b"", 10_000).expect(&rt, "there is memory");
@@ -232,7 +260,7 @@ fn a_transmit_is_offered_all_that_waits(rt: HostRuntime) {
     assert!(rt; flushed(&mut outbox, &mut line) == Some(Sent::Bytes(3_008)) && outbox.is_empty());
 }
 
-/// Codes of TPDU sizes, and the sizes.
+/// The codes of TPDU sizes, and the sizes.
 const SIZES: &[(u8, u16)] = &[
     (0x07, 128),
     (0x08, 256),
@@ -243,10 +271,12 @@ const SIZES: &[(u8, u16)] = &[
     (0x0D, 8_192),
 ];
 
+/// Reports whether a code is that of this TPDU size.
 fn is_size(code: u8, size: u16) -> bool {
     code >= 7 && code <= 13 && tpdu_size(code) == size
 }
 
+/// The codes of TPDU sizes have their sizes.
 #[test]
 fn a_code_is_a_tpdu_size(rt: HostRuntime) {
     for &(code, size) in SIZES {

@@ -1,4 +1,4 @@
-//! Octets of a link, made by hand, and what they are found to be.
+//! Tests of the reader of a link: the octets of links, written by hand, and what the reader finds in them.
 
 ghost use Rattle.std.specs.Prelude.{◌≡◌};
 ghost use Rattle.s7_wire.specs.Reads.{HasMessage};
@@ -8,10 +8,11 @@ use s7_outer::Memory;
 use s7_wire::{Found, Opening, ReadFault, Reader};
 use std::alloc::Global;
 
-/// A connect request with the TPDU size 1,024, and one with 128.
+/// A connect request with the TPDU size 1,024.
 const REQUEST: &[u8] =
     b"\x03\x00\x00\x16\x11\xE0\x00\x00\x00\x01\x00\xC0\x01\x0A\xC1\x02\x01\x00\xC2\x02\x01\x02";
 
+/// A connect request with the TPDU size 128.
 const SMALL_REQUEST: &[u8] =
     b"\x03\x00\x00\x16\x11\xE0\x00\x00\x00\x01\x00\xC0\x01\x07\xC1\x02\x01\x00\xC2\x02\x01\x02";
 
@@ -19,15 +20,19 @@ const SMALL_REQUEST: &[u8] =
 const CONFIRM: &[u8] =
     b"\x03\x00\x00\x16\x11\xD0\x00\x01\x00\x02\x00\xC0\x01\x0A\xC1\x02\x01\x00\xC2\x02\x01\x02";
 
-/// A fragment of five octets and one of none, which aren't the last, and one of five that is.
+/// A fragment of five octets, which isn't the last of its message.
 const FRAGMENT: &[u8] = b"\x03\x00\x00\x0C\x02\xF0\x00\xF0\xF1\xF2\xF3\xF4";
 
+/// A fragment of no octets, which isn't the last of its message.
 const EMPTY_FRAGMENT: &[u8] = b"\x03\x00\x00\x07\x02\xF0\x00";
 
+/// A fragment of five octets, which is the last of its message.
 const LAST: &[u8] = b"\x03\x00\x00\x0C\x02\xF0\x80\xE0\xE1\xE2\xE3\xE4";
 
+/// A disconnect request.
 const DISCONNECT: &[u8] = b"\x03\x00\x00\x0B\x06\x80\x00\x00\x00\x01\x80";
 
+/// An error TPDU.
 const ERROR: &[u8] = b"\x03\x00\x00\x09\x04\x70\x00\x01\x00";
 
 /// Thirteen fragments of no octets.
@@ -38,21 +43,26 @@ const THIRTEEN: &[u8] =
     \x03\x00\x00\x07\x02\xF0\x00\x03\x00\x00\x07\x02\xF0\x00\x03\x00\x00\x07\x02\xF0\x00\
     \x03\x00\x00\x07\x02\xF0\x00";
 
-/// 128 octets.
+/// A message of 128 octets.
 const USER: &[u8] = b"\x32\x03\x00\x00\x00\x05\x00\x02\x00\x74\x00\x00\x04\x01\xFF\x04\x03\x80\
     ABCDEFGHIJKLMNOPQRSTUVWXYZabcdefghijklmnopqrstuvwxyz0123456789\
     NOPQRSTUVWXYZABCDEFGHIJKLMnopqrstuvwxyzabcdefxyz";
 
-/// What is to be found, with the place of its packet.
+/// What a reader is to find, with the offset of its packet.
 #[derive(Clone, Copy)]
 enum Wanted {
+    /// The connect that opens the link, with this TPDU size.
     Opened(u16),
+    /// A message.
     Message(&'static [u8], u64),
+    /// A disconnect request.
     Disconnected(u64),
+    /// A fault.
     Fault(ReadFault, u64),
 }
 
-/// Whose connect opens a link, its octets, what they are to be found to be, and how many of them are torn.
+/// The connect that opens a link, the octets of the link, what a reader is to find in them, and the number of octets
+/// that are torn.
 type Row = (
     Opening,
     &'static [&'static [u8]],
@@ -60,6 +70,7 @@ type Row = (
     Option<usize>,
 );
 
+/// Reports whether the reader found what is wanted.
 fn is_wanted(reader: &Reader, found: Found, wanted: Wanted) -> bool
     requires { found ≡ Found.Message → HasMessage reader.now }
 {
@@ -76,7 +87,7 @@ fn is_wanted(reader: &Reader, found: Found, wanted: Wanted) -> bool
     }
 }
 
-/// What is still wanted after a piece, and none where something else was found.
+/// What is still wanted after a piece. There is none if the reader found something else.
 fn wanted_after(
     reader: &mut Reader,
     piece: &[u8],
@@ -93,18 +104,18 @@ fn wanted_after(
         if taken.found == Found::More {
             continue;
         }
-        let [next, behind @ ..] = left else {
+        let [next, later @ ..] = left else {
             return None;
         };
         if !is_wanted(reader, taken.found, *next) {
             return None;
         }
-        left = behind;
+        left = later;
     }
     Some(left)
 }
 
-/// Whether octets are read as all that is wanted, in pieces of so many.
+/// Reports whether octets in pieces of this size are read as all that is wanted.
 fn reads_pieces(
     reader: &mut Reader,
     octets: &[u8],
@@ -116,15 +127,15 @@ fn reads_pieces(
     }
     let mut left = wanted;
     for piece in octets.chunks(size) {
-        let Some(behind) = wanted_after(reader, piece, left) else {
+        let Some(later) = wanted_after(reader, piece, left) else {
             return false;
         };
-        left = behind;
+        left = later;
     }
     left.is_empty()
 }
 
-/// Whether a row is read as wanted, in pieces of so many octets.
+/// Reports whether a row is read as wanted, in pieces of this size.
 fn reads_as(alloc: Global, row: &Row, size: usize) -> Result<bool, Memory> {
     let (opening, parts, wanted, torn) = *row;
     let octets = joined(alloc, parts)?;
@@ -132,7 +143,7 @@ fn reads_as(alloc: Global, row: &Row, size: usize) -> Result<bool, Memory> {
     Ok(reads_pieces(&mut reader, &octets, size, wanted) && reader.torn() == torn)
 }
 
-/// Whether a row is read as wanted octet by octet, in pieces that cut packets, and at once.
+/// Reports whether a row is read as wanted octet by octet, in pieces that cut packets, and at once.
 fn is_read(alloc: Global, row: &Row) -> bool {
     for size in [1, 7, 8_192] {
         if reads_as(alloc, row, size) != Ok(true) {
@@ -148,9 +159,10 @@ const E0_TO_E4: &[u8] = b"\xE0\xE1\xE2\xE3\xE4";
 /// The message of two fragments and `LAST`.
 const LONG: &[u8] = b"\xF0\xF1\xF2\xF3\xF4\xF0\xF1\xF2\xF3\xF4\xE0\xE1\xE2\xE3\xE4";
 
-/// What a link is opened with, where its size is 1,024, and where it is 128.
+/// The opening of a link with the TPDU size 1,024.
 const OPENED: Wanted = Wanted::Opened(1_024);
 
+/// The opening of a link with the TPDU size 128.
 const SMALL_OPENED: Wanted = Wanted::Opened(128);
 
 /// Links with packets of messages.
@@ -203,6 +215,7 @@ const JOINED: &[Row] = &[
     ),
 ];
 
+/// Messages are joined from the packets of a link, however its octets come.
 #[test]
 fn messages_are_joined_from_packets(rt: HostRuntime) {
     for row in JOINED {
@@ -210,7 +223,7 @@ fn messages_are_joined_from_packets(rt: HostRuntime) {
     }
 }
 
-/// Links that a packet at fault ends.
+/// Links that a packet with a fault ends.
 const AT_FAULT: &[Row] = &[
     (
         Opening::Request,
@@ -276,6 +289,7 @@ const AT_FAULT: &[Row] = &[
     ),
 ];
 
+/// A packet with a fault ends a link, however its octets come.
 #[test]
 fn packets_at_fault_end_a_link(rt: HostRuntime) {
     for row in AT_FAULT {
@@ -283,18 +297,27 @@ fn packets_at_fault_end_a_link(rt: HostRuntime) {
     }
 }
 
-/// Whether a reader that found a fault takes no more octets.
+/// Reports whether a reader that found a fault takes no more octets.
 fn is_over(reader: &mut Reader) -> bool {
     reader.read(CONFIRM).octets == 0
 }
 
-/// What a side that dials finds in a request, which only one that is dialled awaits.
+/// What the side that dials finds in a connect request, which it never awaits.
 const UNEXPECTED: &[Wanted] = &[Wanted::Fault(ReadFault::Unexpected, 0)];
 
+/// Reports whether a reader that is restarted finds an opening.
+fn reads_anew(reader: &mut Reader) -> bool {
+    reader.restart();
+    reads_pieces(reader, CONFIRM, 8_192, &[OPENED])
+}
+
+/// A reader that is restarted after a fault reads another link.
 #[test]
 fn a_reader_begins_anew(rt: HostRuntime) {
     let mut reader = Reader::new(rt.alloc(), Opening::Confirm).expect(&rt, "there is memory");
-    assert!(rt; reads_pieces(&mut reader, REQUEST, 8_192, UNEXPECTED) && is_over(&mut reader));
-    reader.restart();
-    assert!(rt; reads_pieces(&mut reader, CONFIRM, 8_192, &[OPENED]));
+    assert!(rt;
+        reads_pieces(&mut reader, REQUEST, 8_192, UNEXPECTED)
+            && is_over(&mut reader)
+            && reads_anew(&mut reader)
+    );
 }

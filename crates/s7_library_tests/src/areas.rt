@@ -1,9 +1,9 @@
-// Area files: the first wrong line, and what is wrong with it.
+//! Wrong area files: their first wrong lines, and the faults of these.
 use crate::wrong_lines::{Row, Wrong};
 use s7_area::RegisterFault;
 use s7_script::AreasKind;
 
-/// The first wrong lines.
+/// The first wrong lines of area files.
 pub(crate) const WRONG_LINES: &[Row] = &[
     (
         1,

@@ -1,11 +1,11 @@
-// The job that a text names.
+//! The jobs that texts name.
 use crate::words::{hex_octet, hex_small, item_of, items_of, number, octets_of, parted, small};
 use s7_client::{ItemList, Job};
 use s7_outer::Octets;
 use std::alloc::Global;
 
-/// A job: its name, and what it takes, as in `read ITEM`, `write ITEM = OCTETS` or `upload KIND NUMBER`.
-/// These are the jobs that the texts name.
+/// A job by its name and its arguments, as in `read ITEM`, `write ITEM = OCTETS` or `upload KIND NUMBER`. The tests
+/// name no other jobs.
 pub(crate) fn job_of(alloc: Global, text: &str) -> Option<Job> {
     let (name, takes) = parted(text, ' ');
     match name {
@@ -17,7 +17,7 @@ pub(crate) fn job_of(alloc: Global, text: &str) -> Option<Job> {
     }
 }
 
-/// The names of jobs in the order of their numbers, which a completion is told.
+/// The names of jobs in the order of their numbers, as completions count them.
 const NAMES: &str = "\
 connect read write readmany writemany list listof info upload download delete szl clock setclock start coldstart stop \
 compress copy status password clearpassword dbget dbfill disconnect";
@@ -25,8 +25,13 @@ compress copy status password clearpassword dbget dbfill disconnect";
 /// The number of the job that a text names.
 pub(crate) fn number_of(text: &str) -> Option<u8> {
     let (name, _) = parted(text, ' ');
+    number_among(NAMES, name)
+}
+
+/// The number, from 1 on, of a name among names.
+fn number_among(names: &str, name: &str) -> Option<u8> {
     let mut number = 0u8;
-    for other in NAMES.split_ascii_whitespace() {
+    for other in names.split_ascii_whitespace() {
         number = number.saturating_add(1);
         if other == name {
             return Some(number);
@@ -35,14 +40,19 @@ pub(crate) fn number_of(text: &str) -> Option<u8> {
     None
 }
 
-/// Both jobs are shown alike.
+/// Reports whether both jobs are the same, by their `Debug` texts.
 pub(crate) fn is_same(alloc: Global, one: &Job, other: &Job) -> Option<bool> {
     let one = shown(alloc, one)?;
     let other = shown(alloc, other)?;
     Some(one.as_str() == other.as_str())
 }
 
-/// A job as it is shown.
+/// Reports whether a text names this job.
+pub(crate) fn is_job(alloc: Global, job: &Job, text: &str) -> Option<bool> {
+    is_same(alloc, job, &job_of(alloc, text)?)
+}
+
+/// The `Debug` text of a job.
 fn shown(alloc: Global, job: &Job) -> Option<String> {
     format!(in alloc; "{job:?}").ok()
 }

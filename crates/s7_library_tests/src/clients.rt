@@ -1,9 +1,9 @@
-// The calls of a client that tests make. Nothing is promised of them, so that what calls these is soon proved.
+//! The calls of a client that tests make. The functions promise nothing, so that their callers are cheap to prove.
 use s7_client::{Client, Counter, Job, Polled, StartFault};
 use s7_outer::Link;
 use std::alloc::Global;
 
-/// Has the client start a job.
+/// Starts a job of the client.
 pub(crate) fn start(
     client: &mut Client<Counter>,
     alloc: Global,
@@ -12,12 +12,12 @@ pub(crate) fn start(
     client.start(alloc, job)
 }
 
-/// What a poll comes to.
+/// The outcome of a poll.
 pub(crate) fn polled<L: Link>(client: &mut Client<Counter>, link: &mut L) -> Polled {
     client.poll(link)
 }
 
-/// Puts another counter, or none, in the place of the one that there is, which is handed out.
+/// Replaces the completion, which is handed out.
 pub(crate) fn swapped(client: &mut Client<Counter>, done: Option<Counter>) -> Option<Counter> {
     client.set_completion(done)
 }

@@ -1,4 +1,4 @@
-// Jobs that are carried out, and who is told of them.
+//! Tests of the completions of a client that carries out jobs.
 ghost use Rattle.std.specs.Prelude.{◌≡◌, IfSome, None};
 ghost use Rattle.s7_client.specs.Completions.{connection_of};
 ghost use Rattle.s7_client.specs.Polling.{job_of};
@@ -10,11 +10,11 @@ use s7_outer::Octets;
 use std::alloc::Global;
 use std::test::Fail;
 
-/// The link gives the confirm and the grant, octet by octet.
+/// The confirm and the grant that the link gives, octet by octet.
 const CONFIRM_AND_GRANT: &str = "\
 0300001611d00001000100c0010ac1020100c2020102 0300001b02f080320300000001000800000000f0000001000101e0";
 
-/// The job is carried out, and ends with this number.
+/// Carries out a job. Reports whether it ends with this code.
 fn ends_with(
     alloc: Global,
     client: &mut Client<Counter>,
@@ -31,7 +31,7 @@ fn ends_with(
     }
 }
 
-/// The counter was told of one job, of this number, which came off.
+/// Reports whether the counter counted one job, which had this number and succeeded.
 fn is_told_once(counter: &Option<Counter>, number: u8) -> bool {
     match counter {
         Some(counter) => counter.calls() == 1 && is_last(counter, number),
@@ -39,7 +39,7 @@ fn is_told_once(counter: &Option<Counter>, number: u8) -> bool {
     }
 }
 
-/// The last job that it was told of has this number, and came off.
+/// Reports whether the last job that the counter counted had this number and succeeded.
 pub(crate) fn is_last(counter: &Counter, number: u8) -> bool {
     match counter.last() {
         Some((last, code)) => last == number && code == 0,
@@ -54,13 +54,13 @@ fn a_client(alloc: Global) -> Option<Client<Counter>>
     Client::new(alloc, Config::new(1, 0, 2), Some(Counter::new())).ok()
 }
 
-/// A link that gives what a connect wants.
+/// A link that gives the answers to a connect.
 fn a_link(alloc: Global) -> Option<MemoryLink> {
     let input = Octets::of_vec(octets_of(alloc, CONFIRM_AND_GRANT)?);
     MemoryLink::new(alloc, input, 1, 4_096, 7).ok()
 }
 
-/// Puts another completion in the place of the one that there is, which is handed out.
+/// Replaces the completion, which is handed out.
 fn swapped(client: &mut Client<Counter>, done: Option<Counter>) -> Option<Counter>
     requires { job_of (connection_of client.old) ≡ None }
     ensures { job_of (connection_of client.new) ≡ None }
@@ -68,7 +68,7 @@ fn swapped(client: &mut Client<Counter>, done: Option<Counter>) -> Option<Counte
     client.set_completion(done)
 }
 
-/// The client connects.
+/// Reports whether the client connects.
 fn connects(alloc: Global, client: &mut Client<Counter>, link: &mut MemoryLink) -> bool
     requires { job_of (connection_of client.old) ≡ None }
     ensures { job_of (connection_of client.new) ≡ None }
@@ -80,7 +80,7 @@ fn connects(alloc: Global, client: &mut Client<Counter>, link: &mut MemoryLink) 
     }
 }
 
-/// Each completion is told of the jobs that are done while it stands.
+/// Reports whether each completion counts the jobs that are done while the client has it.
 fn are_told(alloc: Global, client: &mut Client<Counter>, link: &mut MemoryLink) -> bool
     requires { job_of (connection_of client.old) ≡ None }
 {
@@ -94,13 +94,14 @@ fn are_told(alloc: Global, client: &mut Client<Counter>, link: &mut MemoryLink) 
     connected && disconnected && listed && told
 }
 
-/// Each completion of a new client is told so.
+/// Reports whether each completion of a new client counts these jobs.
 fn is_told(alloc: Global) -> Option<bool> {
     let mut link = a_link(alloc)?;
     let mut client = a_client(alloc)?;
     Some(are_told(alloc, &mut client, &mut link))
 }
 
+/// Each completion of a client counts the jobs that are done while the client has it.
 #[test]
 fn each_completion_is_told_of_its_jobs(rt: HostRuntime) -> Result<(), Fail> {
     assert!(rt; is_told(rt.alloc()).unwrap_or(false));

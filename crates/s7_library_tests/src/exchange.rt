@@ -1,22 +1,24 @@
-// Exchanges of a client over a link, told by texts.
-//
-// A text begins with what holds throughout, each line only where it is wanted: `jobs 1 2 8`, the numbers of parallel
-// jobs that are tried, each asked for and granted (1); `most 1 3 8192`, how many octets the link moves at most in a
-// call, each tried too (8192); `pdu`, which PDU is asked for (480); `patience`, with how many polls without progress
-// a job is over (50); `room`, how many octets the link has room for (4096); and `fates`, what comes of its first
-// calls, `pass`, `wait` or `fail`, where `pass*3` is three of them.
-//
-// Then line by line comes what happens. `gives OCTETS` is a new link that gives these. A job stands with how it ends,
-// as in `read ITEM : CODE : OCTETS : CODES : CARRIED`: its number in hex, the octets read, the return codes and the
-// message that it carries, where the last ones may be left out. It is polled once, and once more for each call of the
-// link that waits; `waited N` is how many polls of the last job were pending. `sent OCTETS` is all that was written on
-// the link, `begun N OCTETS` that these are the first of them, and `count N` how many there are. `granted N` is the
-// PDU, or `granted none`, and `closed` or `open` is the client. What a client does over pipes stands in `pipes`.
-//
-// The completion of the client is told of each job that is done, once, by its number and the number that it ends with.
-//
-// In octets `@` is the number of parallel jobs. A word in capitals is the name of what stands behind it in a text of
-// names.
+//! Exchanges of a client over a link, as texts say them.
+//!
+//! A text begins with its settings. Each has a line only if it isn't the usual: `jobs 1 2 8` are the numbers of
+//! parallel jobs that are tried, each asked for and granted (1); `most 1 3 8192` are the greatest numbers of octets
+//! that the link moves in a call, each tried too (8192); `pdu` is the PDU length that is asked for (480); `patience` is
+//! the number of polls without progress after which a job ends (50); `room` is the number of octets for which the link
+//! has room (4096); `fates` is what becomes of its first calls, `pass`, `wait` or `fail`, where `pass*3` is three of
+//! them.
+//!
+//! The other lines happen one after another. `gives OCTETS` is a new link that gives these. A job has a line with its
+//! end, as in `read ITEM : CODE : OCTETS : CODES : CARRIED`: its code in hex, the octets that were read, the return
+//! codes and the message that it carries. The last ones may be left out. The job is polled once, and once more for each
+//! call of the link that waits. `waited N` is the number of polls of the last job that were pending. `sent OCTETS` is
+//! all that was written on the link, `begun N OCTETS` says that N octets were written, the first of these, and `count
+//! N` is their number. `granted N` is the PDU length, or `granted none`. `closed` and `open` is the state of the
+//! client. The lines of a client over pipes are those of `pipes`.
+//!
+//! The completion of the client counts each job that is done, once, with its number and its code.
+//!
+//! In octets `@` is the number of parallel jobs. A word in capitals is a name for the words after it in a text of
+//! names.
 use crate::asks::{job_of, number_of};
 use crate::clients::{polled, start, swapped};
 use crate::words::{MOST, are, filled, hex_number, number, octets_of, part, parted, small};
@@ -25,11 +27,11 @@ use s7_memory::{FailingLink, Fate, MemoryLink, Pipes, Side};
 use s7_outer::Octets;
 use std::alloc::Global;
 
-/// Names with what they stand for; a text in which `$1` to `$6` are the fields of a row; and its rows, in which `|` is
-/// between two fields, or the name of a text without fields.
+/// A text of names, a text in which `$1` to `$6` are the fields of a row, and the rows. A row has `|` between two
+/// fields, or is the name of a text without fields.
 pub(crate) type Form = (&'static str, &'static str, &'static str);
 
-/// A row with which a form doesn't hold, and the number of the line that doesn't.
+/// A row with which a form doesn't hold, and the number of the line that doesn't hold.
 pub(crate) type Unmet = (&'static str, usize);
 
 /// Names that every text may use. The item `FOUR` is four bytes of data block 1.
@@ -46,7 +48,7 @@ READ_AGAIN 0300001f02f080320100000003000e00000401120a10020004000184000000
 READ_AGAIN_ANSWER 0300001d02f0803203000000030002000800000401ff04002055667788
 DISCONNECT 0300000b06800001000180";
 
-/// A client, its link and its pipes in the middle of a text.
+/// A client, its link and its pipes in the course of a text.
 pub(crate) struct Exchange<'a> {
     pub(crate) alloc: Global,
     text: &'a str,
@@ -54,15 +56,15 @@ pub(crate) struct Exchange<'a> {
     pub(crate) client: Client<Counter>,
     link: FailingLink<MemoryLink>,
     pub(crate) pipes: Pipes,
-    /// How many calls of each link wait, and how many polls of the last job were pending.
+    /// The number of calls of each link that wait, and the number of polls of the last job that were pending.
     waits: u64,
     waited: u64,
-    /// How many jobs are done, and the number of the last one with that it ended with.
+    /// The number of jobs that are done, and the number and the code of the last one.
     finished: u64,
     last: Option<(u8, u32)>,
 }
 
-// It is dropped by a function of its own, so that what drops it is soon proved.
+/// An exchange is dropped by a function of its own, so that its callers are cheap to prove.
 impl Drop for Exchange<'_> {
     fn drop(self) {
         let Exchange {
@@ -80,7 +82,7 @@ impl Drop for Exchange<'_> {
     }
 }
 
-/// The first row with which a line of its form doesn't hold, and that line's number.
+/// The first row with which a line of its form doesn't hold, and the number of that line.
 pub(crate) fn unmet(alloc: Global, forms: &[Form]) -> Option<Unmet> {
     for form in forms {
         if let Some(row) = unmet_row(alloc, form) {
@@ -90,7 +92,7 @@ pub(crate) fn unmet(alloc: Global, forms: &[Form]) -> Option<Unmet> {
     None
 }
 
-/// The first such row of a form. A line of the rows that begins with `#` says what the next row is.
+/// The first such row of a form. A line of the rows that begins with `#` describes the next row.
 fn unmet_row(alloc: Global, form: &Form) -> Option<Unmet> {
     let (names, form, rows) = *form;
     for row in rows.lines() {
@@ -112,7 +114,7 @@ fn unmet_with(alloc: Global, names: &str, form: &str, row: &str) -> Option<usize
     }
 }
 
-/// The form with the fields of a row, and the values in place of the names, also of those that values have.
+/// The form with the fields of a row, and with the words of each name in its place, also for names in these words.
 fn text_of(alloc: Global, names: &str, form: &str, row: &str) -> Option<String> {
     let text = with_values(alloc, names, form)?;
     let text = filled(alloc, text.as_str(), row)?;
@@ -138,7 +140,7 @@ fn unmet_at(alloc: Global, text: &str, jobs: &str) -> Option<usize> {
     }
 }
 
-/// The number of the first line that doesn't hold in some pieces.
+/// The number of the first line that doesn't hold with a number of octets in a call.
 fn unmet_in_pieces(alloc: Global, text: &str, jobs: &str) -> Option<usize> {
     for most in setting(text, "most", "8192").split_ascii_whitespace() {
         let unmet = unmet_line(alloc, text, jobs, most);
@@ -149,7 +151,7 @@ fn unmet_in_pieces(alloc: Global, text: &str, jobs: &str) -> Option<usize> {
     None
 }
 
-/// The number of the first line, from 0, in which not all happens as it says.
+/// The number of the first line, from 0, that doesn't hold.
 fn unmet_line(alloc: Global, text: &str, jobs: &str, most: &str) -> Option<usize> {
     match begun(alloc, text, jobs, most) {
         Some(mut exchange) => exchange.unmet(),
@@ -157,7 +159,7 @@ fn unmet_line(alloc: Global, text: &str, jobs: &str, most: &str) -> Option<usize
     }
 }
 
-/// The text with the values in place of the names.
+/// The text with the words of each name in its place.
 fn with_values(alloc: Global, names: &str, text: &str) -> Option<String> {
     let mut all = String::new(alloc);
     for line in text.lines() {
@@ -166,7 +168,7 @@ fn with_values(alloc: Global, names: &str, text: &str) -> Option<String> {
     Some(all)
 }
 
-/// Adds a line with the values in place of the names.
+/// Adds a line with the words of each name in its place.
 fn add_line(all: &mut String, names: &str, line: &str) -> Option<()> {
     for word in line.split_ascii_whitespace() {
         add(all, value_of(names, word))?;
@@ -175,18 +177,18 @@ fn add_line(all: &mut String, names: &str, line: &str) -> Option<()> {
     add(all, "\n")
 }
 
-/// Adds a text. Nothing is promised of it, so that what calls this is soon proved.
+/// Adds a text. The function promises nothing, so that its callers are cheap to prove.
 fn add(all: &mut String, text: &str) -> Option<()> {
     all.push_str(text).ok()
 }
 
-/// What a word stands for: itself, where it is no name.
+/// The words of a name, or the word itself if it isn't a name.
 fn value_of<'a>(names: &'a str, word: &'a str) -> &'a str {
     let common = setting(NAMES, word, word);
     setting(names, word, common)
 }
 
-/// What stands behind this word in a line that begins with it, and else the usual.
+/// The words after this word in a line that begins with it, or else the usual ones.
 fn setting<'a>(text: &'a str, name: &str, usual: &'a str) -> &'a str {
     for line in text.lines() {
         let (word, value) = parted(line, ' ');
@@ -218,7 +220,7 @@ fn begun<'a>(alloc: Global, text: &'a str, jobs: &str, most: &str) -> Option<Exc
     })
 }
 
-/// How many calls of a link wait.
+/// The number of calls of a link that wait.
 fn waits_of(alloc: Global, text: &str) -> Option<u64> {
     let mut waits = 0u64;
     for fate in fates_of(alloc, text)?.as_slice() {
@@ -229,7 +231,7 @@ fn waits_of(alloc: Global, text: &str) -> Option<u64> {
     Some(waits)
 }
 
-/// A client as the text wants it.
+/// A client with the settings of the text.
 fn client_of(alloc: Global, text: &str, jobs: &str) -> Option<Client<Counter>> {
     let config = Config {
         jobs: small(jobs).clamp(1, 8),
@@ -248,7 +250,7 @@ fn link_of(alloc: Global, text: &str, gives: &str, most: usize) -> Option<Failin
     Some(FailingLink::new(inner, fates))
 }
 
-/// How many octets each link and each pipe has room for.
+/// The number of octets for which each link and each pipe has room.
 fn room_of(text: &str) -> usize {
     usize::from(small(setting(text, "room", "4096")))
 }
@@ -263,7 +265,7 @@ fn fates_of(alloc: Global, text: &str) -> Option<Vec<Fate>> {
     Some(fates)
 }
 
-/// Adds a fate so often.
+/// Adds a fate this number of times.
 fn add_fates(fates: &mut Vec<Fate>, fate: Fate, times: u64) -> Option<()> {
     for _ in 0..times.min(MOST) {
         fates.push(fate).ok()?;
@@ -282,7 +284,7 @@ fn fate_of(word: &str) -> Option<Fate> {
 }
 
 impl Exchange<'_> {
-    /// The number of the first line, from 0, in which not all happens as it says.
+    /// The number of the first line, from 0, that doesn't hold.
     fn unmet(&mut self) -> Option<usize> {
         let mut number = 0usize;
         for line in self.text.lines() {
@@ -294,7 +296,7 @@ impl Exchange<'_> {
         None
     }
 
-    /// The completion was told of the jobs that are done, and of nothing else.
+    /// Reports whether the completion counted the jobs that are done, and nothing else.
     fn is_counted(&mut self) -> bool {
         let Some(counter) = swapped(&mut self.client, None) else {
             return false;
@@ -304,13 +306,13 @@ impl Exchange<'_> {
         is_so
     }
 
-    /// A job of this number is done.
+    /// Counts a job of this number, which is done.
     pub(crate) fn finish(&mut self, number: u8, told: &JobResult) {
         self.finished = self.finished.saturating_add(1);
         self.last = Some((number, told.code));
     }
 
-    /// What happens in a line is as it says.
+    /// Reports whether a line holds.
     fn line_holds(&mut self, line: &str) -> Option<bool> {
         let (word, rest) = parted(line, ' ');
         match word {
@@ -326,7 +328,7 @@ impl Exchange<'_> {
         }
     }
 
-    /// The client stands as the line says.
+    /// Reports whether a line on the state of the client holds.
     fn stands(&mut self, word: &str, rest: &str, line: &str) -> Option<bool> {
         match word {
             "waited" => Some(self.waited == number(rest)),
@@ -337,7 +339,7 @@ impl Exchange<'_> {
         }
     }
 
-    /// The client and the server do over pipes what the line says.
+    /// Reports whether a line on pipes holds.
     fn moves_on(&mut self, word: &str, rest: &str, line: &str) -> Option<bool> {
         match word {
             "starts" => self.starts(rest),
@@ -351,7 +353,7 @@ impl Exchange<'_> {
         }
     }
 
-    /// The first octets of so many were written, and no more.
+    /// Reports whether N octets were written, the first of these.
     fn has_begun(&self, text: &str) -> Option<bool> {
         let (count, words) = parted(text, ' ');
         let count = usize::from(small(count));
@@ -360,7 +362,7 @@ impl Exchange<'_> {
         Some(first == self.link.inner().written())
     }
 
-    /// The client has this PDU, or none.
+    /// Reports whether the client has this PDU length, or none.
     fn is_granted(&self, pdu: &str) -> bool {
         match self.client.granted() {
             Some(granted) => granted == small(pdu),
@@ -368,7 +370,7 @@ impl Exchange<'_> {
         }
     }
 
-    /// A job ends as its line says.
+    /// Reports whether a job ends as its line says.
     fn ends(&mut self, line: &str) -> Option<bool> {
         let (ask, end) = parted(line, ':');
         let number = number_of(ask)?;
@@ -378,7 +380,7 @@ impl Exchange<'_> {
         is_told(self.alloc, &told, end)
     }
 
-    /// What one poll after its start makes of a job, which nothing may turn away, or one more for each call that waits.
+    /// The result of a job, which the client takes, after one poll, or one more for each call that waits.
     fn done(&mut self, job: Job) -> Option<JobResult> {
         start(&mut self.client, self.alloc, job).ok()?;
         self.waited = 0;
@@ -393,7 +395,7 @@ impl Exchange<'_> {
     }
 }
 
-/// The job ended so.
+/// Reports whether the job ended so.
 fn is_told(alloc: Global, told: &JobResult, end: &str) -> Option<bool> {
     let codes = told.codes.get(..usize::from(told.count))?;
     let is_so = hex_number(part(end, ':', 0)) == told.code

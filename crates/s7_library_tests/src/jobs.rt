@@ -1,7 +1,8 @@
-// Jobs that no script makes, and clients over a second link.
-use crate::exchange::{Form, unmet};
+//! Tests of jobs that no script makes, and of clients over a second link.
+use crate::exchange::{Form, Unmet, unmet};
+use std::alloc::Global;
 
-/// A connected client ends a job with this number and sends nothing, and the next read goes on.
+/// A connected client ends a job with this code and sends nothing. The next read succeeds.
 const TURNED_DOWN: &str = "\
 jobs 1 2 8
 gives CONFIRM GRANTED READ_ANSWER
@@ -12,7 +13,7 @@ sent CONNECT SETUP READ
 granted 480
 open";
 
-/// A job that sends nothing, and its number.
+/// A job that sends nothing, and its code.
 const BAD_JOBS: &str = "\
 # a read of an unknown word
 read 84.1.55.1.0 | 00500000
@@ -61,7 +62,7 @@ sent CONNECT SETUP READ
 granted 480
 open";
 
-/// No items are no telegrams.
+/// A job without items sends no telegram.
 const NO_ITEMS: &str = "\
 jobs 1 2 8
 most 1 3 8192
@@ -101,8 +102,8 @@ sent CONNECT SETUP DISCONNECT
 granted none
 open";
 
-/// A read is answered by a message that is no answer, which is carried and closes the client: what comes after it is
-/// of no more use. The client connects on a new link, which begins anew.
+/// A message that is no answer ends a read, which carries the message, and closes the client. The octets after it are
+/// of no use. The client connects on a new link, where it begins anew.
 const CARRIED: &str = "\
 jobs 1 2 8
 most 1 3 8192
@@ -120,7 +121,7 @@ granted 480
 open
 sent CONNECT SETUP READ";
 
-/// The head and the message.
+/// The head, and the message.
 const NO_ANSWERS: &str = "\
 # another sequence
 0300001d02f080 | 3203000000030002000800000401ff04002011223344
@@ -129,8 +130,8 @@ const NO_ANSWERS: &str = "\
 # ten octets of anything
 0300001102f080 | 00010203040506070809";
 
-/// A job of a connected client that comes off so, and a disconnect. The fields are the job, what it asks, the answers,
-/// and the number and the octets.
+/// A connected client carries out a job with this outcome, and a disconnect. The fields are the job, its request, the
+/// answers, and the code and the octets.
 const COMES_OFF: &str = "\
 jobs 1 2 8
 most 1 3 8192
@@ -142,7 +143,7 @@ sent CONNECT SETUP $2 DISCONNECT
 granted none
 open";
 
-/// The kind FF, which there isn't, with the greatest number and id FF.
+/// An unknown kind of blocks, FF, with the greatest number and the id FF.
 const ANY_KIND: &str = "\
 listof ff | 0300001f02f080320700000002000800060001120411430200ff09000230ff | \
   0300002502f080320700000002000c0008000112081283020100000000ff09000400010105 | 0 : 00010105
@@ -165,7 +166,13 @@ const FORMS: &[Form] = &[
     ("", READ_AFTER_DISCONNECT, "read after disconnect"),
 ];
 
+/// The first row that doesn't hold. Only this function has the texts, so that its callers are cheap to prove.
+fn unmet_row(alloc: Global) -> Option<Unmet> {
+    unmet(alloc, FORMS)
+}
+
+/// Clients go on after jobs that send nothing, over a second link, and with a kind of blocks that is unknown.
 #[test]
 fn clients_go_on(rt: HostRuntime) {
-    assert_eq!(rt; unmet(rt.alloc(), FORMS), None);
+    assert_eq!(rt; unmet_row(rt.alloc()), None);
 }

@@ -1,4 +1,4 @@
-// The words of texts: numbers and octets.
+//! The words of texts on partners: numbers and octets.
 use crate::words::{add_pattern, add_word, number};
 use std::alloc::Global;
 
@@ -49,7 +49,7 @@ const NAMED: &str = "
     short 0300001002f080320700000002000c00
 ";
 
-/// The first word, and what follows it.
+/// The first word of a text, and the words after it.
 pub(crate) fn cut(text: &str) -> (&str, &str) {
     match text.split_once(' ') {
         Some(pair) => pair,
@@ -57,9 +57,14 @@ pub(crate) fn cut(text: &str) -> (&str, &str) {
     }
 }
 
-/// The digits of a name, or else the word itself.
+/// The digits of a name, or the word itself if it isn't a name.
 fn digits_of(word: &str) -> &str {
-    for line in NAMED.lines() {
+    digits_among(NAMED, word)
+}
+
+/// The digits after a name in a text of names, or the word itself if it isn't one of these.
+fn digits_among<'a>(names: &'a str, word: &'a str) -> &'a str {
+    for line in names.lines() {
         let (name, digits) = cut(line.trim());
         if name == word {
             return digits;
@@ -68,7 +73,7 @@ fn digits_of(word: &str) -> &str {
     word
 }
 
-/// Octets by a name or in hexadecimal digits, or by `#` and a number so many that aren't all alike.
+/// Adds octets by a name, in hexadecimal digits, or as `#N`, which is the first N octets of the pattern.
 fn add_named(alloc: Global, all: &mut Vec<u8>, word: &str) -> Option<()> {
     match word.strip_prefix('#') {
         Some(count) => add_pattern(all, 0, number(count)),
@@ -76,7 +81,7 @@ fn add_named(alloc: Global, all: &mut Vec<u8>, word: &str) -> Option<()> {
     }
 }
 
-/// So many octets that aren't all alike.
+/// The first octets of the pattern, `count` of them.
 pub(crate) fn some_octets(alloc: Global, count: u32) -> Option<Vec<u8>> {
     let mut octets = Vec::new(alloc);
     add_pattern(&mut octets, 0, u64::from(count))?;

@@ -1,4 +1,4 @@
-// Two partners that are given the blocks of sends files.
+//! Tests of two partners with the blocks of sends files.
 use s7_client::Config;
 use s7_partner::Role;
 use s7_partner_run::{News, PairEnd, PairEvent, run_pair};
@@ -6,7 +6,7 @@ use s7_script::read_sends;
 use std::alloc::Global;
 use std::test::Fail;
 
-/// How two partners with these files come to an end. Nothing is promised of it, so that what calls this is soon proved.
+/// The end of two partners with these files. The function promises nothing, so that its callers are cheap to prove.
 fn end_of(alloc: Global, one: &[u8], other: &[u8], seed: u32) -> Option<PairEnd> {
     let (Ok(one), Ok(other)) = (read_sends(alloc, one), read_sends(alloc, other)) else {
         return None;
@@ -14,7 +14,7 @@ fn end_of(alloc: Global, one: &[u8], other: &[u8], seed: u32) -> Option<PairEnd>
     run_pair(alloc, Config::new(1, 0, 2), one, other, seed, 10_000).ok()
 }
 
-/// A sends file of so many blocks, of which each has more octets than the one before.
+/// A sends file of `count` blocks, each with one more octet than the one before.
 fn many(alloc: Global, count: u32, octet: &str) -> Option<Vec<u8>> {
     let mut text = Vec::new(alloc);
     for number in 0..count {
@@ -28,7 +28,7 @@ fn many(alloc: Global, count: u32, octet: &str) -> Option<Vec<u8>> {
     Some(text)
 }
 
-/// The octets are so many of these.
+/// Reports whether there are `count` octets, each of them this one.
 pub(crate) fn is_filled(octets: &[u8], count: usize, octet: u8) -> bool {
     for found in octets {
         if *found != octet {
@@ -38,7 +38,7 @@ pub(crate) fn is_filled(octets: &[u8], count: usize, octet: u8) -> bool {
     octets.len() == count
 }
 
-/// The event is a block of this partner's that has this number as R_ID, and one octet more than that.
+/// Reports whether the event is a block of this partner, with this number as its R_ID, and one more octet than that.
 fn is_block(event: &PairEvent, role: Role, octet: u8, number: usize) -> bool {
     match &event.news {
         News::Received { rid, body } => {
@@ -50,7 +50,7 @@ fn is_block(event: &PairEvent, role: Role, octet: u8, number: usize) -> bool {
     }
 }
 
-/// How many events of this partner are blocks of so many octets and more, in order, each with its number as R_ID.
+/// The number of events of this partner that are such blocks, with the numbers from 0 on, in order.
 fn received_in_order(events: &[PairEvent], role: Role, octet: u8) -> usize {
     let mut next = 0usize;
     for event in events {
@@ -61,7 +61,7 @@ fn received_in_order(events: &[PairEvent], role: Role, octet: u8) -> usize {
     next
 }
 
-/// Both partners have sent all blocks.
+/// Reports whether both partners have sent all blocks.
 fn have_sent(end: &PairEnd) -> bool {
     let events = end.events.as_slice();
     end.is_done
@@ -70,7 +70,7 @@ fn have_sent(end: &PairEnd) -> bool {
         && received_in_order(events, Role::Active, 0xB2) == 200
 }
 
-/// Two partners with 200 blocks each send them all.
+/// Reports whether two partners with 200 blocks each send them all.
 fn send_both(alloc: Global, seed: u32) -> Option<bool> {
     let one = many(alloc, 200, "a1")?;
     let other = many(alloc, 200, "b2")?;
@@ -78,6 +78,7 @@ fn send_both(alloc: Global, seed: u32) -> Option<bool> {
     Some(have_sent(&end))
 }
 
+/// Two partners send 200 blocks each at the same time.
 #[test]
 fn both_send_200_blocks_at_once(rt: HostRuntime) -> Result<(), Fail> {
     for seed in &[1, 2_147_483_649, 12_345] {

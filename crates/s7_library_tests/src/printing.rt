@@ -1,5 +1,5 @@
-// What is printed of results that no run of the tool has: the greatest number of a line, codes that no job ends with,
-// and jobs that come off without octets.
+//! Tests of the lines of results that no run of the tool has: the greatest number of a line, codes that no job ends
+//! with, and jobs that succeed without octets.
 ghost use Rattle.std.specs.Prelude.{◌≡◌, true};
 ghost use Rattle.s7_script.specs.Printing.{IsPrintable};
 
@@ -10,7 +10,7 @@ use s7_outer::Octets;
 use s7_script::print_result;
 use std::alloc::Global;
 
-/// The line, the code, the job, its octets, and what is printed.
+/// The number of a line, the code, the job, its octets, and the line that is printed.
 type Row = (u32, u32, &'static str, &'static str, &'static str);
 
 /// The results.
@@ -42,7 +42,7 @@ const PRINTED: &[Row] = &[
     (9, 1, "status", "", "9 status 00000001 -\n"),
 ];
 
-/// There are no return codes, and the job is one whose octets are printed as they are, or didn't come off.
+/// Reports whether there are no return codes, and the job failed or is one whose octets are printed as they are.
 fn is_printable(done: &JobResult) -> bool
     ensures { result ≡ true → IsPrintable done.now }
 {
@@ -55,7 +55,7 @@ fn is_printable(done: &JobResult) -> bool
     }
 }
 
-/// What came of a job: its number and octets.
+/// The result of a job, with its code and octets.
 pub(crate) fn done_of(alloc: Global, job: Job, code: u32, octets: &str) -> Option<JobResult> {
     Some(JobResult {
         job,
@@ -67,7 +67,7 @@ pub(crate) fn done_of(alloc: Global, job: Job, code: u32, octets: &str) -> Optio
     })
 }
 
-/// The line that is printed.
+/// The line that is printed, if the result can be printed.
 fn text_of(alloc: Global, line: u32, done: &JobResult) -> Option<Octets> {
     if !is_printable(done) {
         return None;
@@ -75,13 +75,19 @@ fn text_of(alloc: Global, line: u32, done: &JobResult) -> Option<Octets> {
     print_result(alloc, line, done).ok()
 }
 
-/// The line of a row is printed.
+/// Reports whether this line is printed.
+fn is_printed(alloc: Global, line: u32, done: &JobResult, wanted: &str) -> Option<bool> {
+    Some(text_of(alloc, line, done)?.as_slice() == wanted.as_bytes())
+}
+
+/// Reports whether the line of a row is printed.
 fn prints(alloc: Global, row: &Row) -> Option<bool> {
     let (line, code, job, octets, wanted) = *row;
     let done = done_of(alloc, job_of(alloc, job)?, code, octets)?;
-    Some(text_of(alloc, line, &done)?.as_slice() == wanted.as_bytes())
+    is_printed(alloc, line, &done, wanted)
 }
 
+/// The lines of the rows are printed.
 #[test]
 fn results_are_printed(rt: HostRuntime) {
     for row in PRINTED {

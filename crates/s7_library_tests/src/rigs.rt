@@ -1,4 +1,4 @@
-// Rigs: the places of reads in the history, and what is drawn and said of a rig.
+//! Tests of rigs: the entry numbers of reads, the text of a rig, and the scripts that are drawn.
 ghost use Rattle.std.specs.Prelude.{◌≡◌, ◌<◌, ◌≤◌, ◌*◌, All, length, map, IfSome, ◌∷◌, []};
 ghost use Rattle.std.specs.List.{AllByRecursion};
 ghost use Rattle.s7_header.specs.Negotiation.{most_pdu};
@@ -21,7 +21,7 @@ use s7_tool_main::{Head, are_good, made_scripts, rig_text};
 use std::alloc::Global;
 use std::test::Fail;
 
-// Data block 1 with so many octets 00.
+/// Data block 1 with `count` octets 00.
 fn zeros(alloc: Global, count: usize) -> Option<Areas> {
     let key = AreaKey {
         area: 0x84,
@@ -35,7 +35,7 @@ fn zeros(alloc: Global, count: usize) -> Option<Areas> {
     }
 }
 
-// The first so many bytes of data block 1.
+/// The first bytes of data block 1, `count` of them.
 fn bytes(count: u16) -> Item {
     Item {
         area: 0x84,
@@ -46,7 +46,7 @@ fn bytes(count: u16) -> Item {
     }
 }
 
-// A connect, the job, and a disconnect, for a client that doesn't halt.
+/// A connect, the job, and a disconnect, for a client that doesn't halt.
 fn around(alloc: Global, job: Job) -> Option<ClientScript>
     ensures { IfSome result (λ script. script.jobs.items ≡ Connect ∷ job ∷ Disconnect ∷ []) }
 {
@@ -57,7 +57,7 @@ fn around(alloc: Global, job: Job) -> Option<ClientScript>
     Some(ClientScript { jobs, halts: false })
 }
 
-// The end of a rig whose counter was told of the jobs of the first client.
+/// The end of a rig whose counter counted the first client's jobs.
 fn told_rig(
     alloc: Global,
     areas: Areas,
@@ -85,7 +85,7 @@ fn told_rig(
     }
 }
 
-// A client that reads 300 bytes, and one that writes AA to them, with a PDU of 240 octets.
+/// The end of a client that reads 300 bytes, and one that writes AA to them, with a PDU length of 240.
 fn a_reader_and_a_writer(alloc: Global, schedule: Schedule<'_>) -> Option<RigEnd>
     requires { All (λ actor. actor < 4) schedule.turns.now }
 {
@@ -105,7 +105,7 @@ fn a_reader_and_a_writer(alloc: Global, schedule: Schedule<'_>) -> Option<RigEnd
     told_rig(alloc, zeros(alloc, 300)?, 65_536, scripts, config, schedule)
 }
 
-// The counter was told of the jobs of the first client, of which a disconnect was the last, and of no other.
+/// Reports whether the counter counted the first client's jobs, with a disconnect as the last, and no others.
 fn is_told(end: &RigEnd, done: Option<Counter>) -> bool {
     let (Some(client), Some(counter)) = (end.clients.first(), done) else {
         return false;
@@ -113,7 +113,7 @@ fn is_told(end: &RigEnd, done: Option<Counter>) -> bool {
     counter.calls() == client.results.len() as u64 && is_last(&counter, 25)
 }
 
-// The results of the first client's read: code 0, octets 00 and then AA, at these places.
+/// Reports whether the first client's read has code 0, octets 00 and AA after them, and these entry numbers.
 fn reads_between(end: &RigEnd, zeros: usize, places: &[u64]) -> bool {
     let Some(client) = end.clients.first() else {
         return false;
@@ -126,7 +126,7 @@ fn reads_between(end: &RigEnd, zeros: usize, places: &[u64]) -> bool {
         && begins_with_zeros(told.octets.as_slice(), zeros).unwrap_or(false)
 }
 
-/// So many octets 00, and then AA, 300 in all.
+/// Reports whether there are 300 octets, the first ones 00, `zeros` of them, and the others AA.
 fn begins_with_zeros(octets: &[u8], zeros: usize) -> Option<bool> {
     let front = octets.get(..zeros)?;
     let back = octets.get(zeros..)?;
@@ -136,7 +136,7 @@ fn begins_with_zeros(octets: &[u8], zeros: usize) -> Option<bool> {
     Some(is_so)
 }
 
-// The job of the second client has these places.
+/// Reports whether the job of the second client has these entry numbers.
 fn is_placed(end: &RigEnd, places: &[u64]) -> bool {
     let Some(client) = end.clients.get(1) else {
         return false;
@@ -147,7 +147,8 @@ fn is_placed(end: &RigEnd, places: &[u64]) -> bool {
     numbers.as_slice() == places
 }
 
-// The entry of this number is the second client's write of so many bytes of data block 1 at an address.
+/// Reports whether the entry of this number is the second client's write of `count` bytes of data block 1 at an
+/// address.
 fn is_written(end: &RigEnd, number: usize, count: u16, address: u32) -> bool {
     let Some(entry) = end.book.journal.as_slice().get(number) else {
         return false;
@@ -162,7 +163,8 @@ fn is_written(end: &RigEnd, number: usize, count: u16, address: u32) -> bool {
     }
 }
 
-// The reader's first part comes before the writer's two, and its second one behind them.
+/// The end of a rig in which the reader's first part comes before the writer's two parts, and its second one after
+/// them.
 fn a_read_around_a_write(alloc: Global) -> Option<RigEnd> {
     let turns = [
         0, 2, 2, 0, 2, 2, 0, 0, 2, 2, 1, 3, 3, 1, 3, 3, 1, 1, 3, 3, 1, 3, 3, 1, 0, 2, 2, 0,
@@ -175,7 +177,7 @@ fn a_read_around_a_write(alloc: Global) -> Option<RigEnd> {
     a_reader_and_a_writer(alloc, schedule)
 }
 
-// The read was told what stood there before the write in its first 222 octets, and what it left in the others.
+/// Reports whether the first 222 octets of the read are those before the write, and the others those after it.
 fn stands_at_its_places(end: &RigEnd) -> bool {
     end.book.journal.len() == 4
         && reads_between(end, 222, &[0, 3])
@@ -184,13 +186,14 @@ fn stands_at_its_places(end: &RigEnd) -> bool {
         && is_written(end, 2, 95, 1_640)
 }
 
-/// A read of two parts is told what stood at the places of each: the first part before a write, the
-/// second after it.
+/// Reports whether a read of two parts has the octets that were there at the entry of each: the first part before a
+/// write, and the second after it.
 fn is_placed_around(alloc: Global) -> Option<bool> {
     let end = a_read_around_a_write(alloc)?;
     Some(stands_at_its_places(&end))
 }
 
+/// The parts of a read have the octets that were there at their entries.
 #[test]
 fn a_read_stands_at_its_places(rt: HostRuntime) -> Result<(), Fail> {
     assert!(rt; is_placed_around(rt.alloc()).unwrap_or(false));
@@ -203,13 +206,21 @@ fn a_book(alloc: Global) -> Option<Book<Tail>> {
     Book::new(alloc, Areas::new(), blocks, 1, Vec::new(alloc)).ok()
 }
 
-/// A client of link 3 with one line that has no results is told to be unfinished, and the rig isn't good.
-fn is_unfinished(alloc: Global) -> Option<bool> {
+/// The lines of one script, of which there is one.
+fn one_line(alloc: Global) -> Option<Vec<Vec<Head>>> {
     let mut lines = Vec::with_capacity(alloc, 1).ok()?;
     lines.push_reserved(Head { line: 0, tag: None });
     let mut heads = Vec::with_capacity(alloc, 1).ok()?;
     heads.push_reserved(lines);
-    let book = a_book(alloc)?;
+    Some(heads)
+}
+
+/// The text of a rig whose one client, of link 3, has no results, and whether the rig is good.
+fn text_without_results(
+    alloc: Global,
+    heads: &[Vec<Head>],
+    book: Book<Tail>,
+) -> Option<(Vec<u8>, bool)> {
     let mut clients = Vec::with_capacity(alloc, 1).ok()?;
     clients.push_reserved(RigClient {
         link: 3,
@@ -217,19 +228,26 @@ fn is_unfinished(alloc: Global) -> Option<bool> {
         places: Vec::new(alloc),
     });
     let end = RigEnd { book, clients };
-    let text = rig_text(alloc, heads.as_slice(), &end).ok()?;
-    let is_so = text.as_slice() == b"client 3 unfinished\njournal 0\n".as_slice()
-        && !are_good(heads.as_slice(), end.clients.as_slice());
-    Some(is_so)
+    let text = rig_text(alloc, heads, &end).ok()?;
+    Some((text, are_good(heads, end.clients.as_slice())))
 }
 
+/// Reports whether a client of link 3 with one line that has no result is printed as unfinished, and the rig is not
+/// good.
+fn is_unfinished(alloc: Global) -> Option<bool> {
+    let heads = one_line(alloc)?;
+    let (text, is_good) = text_without_results(alloc, heads.as_slice(), a_book(alloc)?)?;
+    Some(text.as_slice() == b"client 3 unfinished\njournal 0\n".as_slice() && !is_good)
+}
+
+/// A client without results is printed as unfinished.
 #[test]
 fn a_client_may_be_unfinished(rt: HostRuntime) -> Result<(), Fail> {
     assert!(rt; is_unfinished(rt.alloc()).unwrap_or(false));
     Ok(())
 }
 
-/// The first lines of seed 7, but for the octets of a write.
+/// The first lines that the seed 7 draws, without the octets of the write.
 const FIRST_LINES: &str = "\
 read DB3 byte 1868 675
 readmany MK byte 0 16 ; DB2 byte 2034 24
@@ -246,7 +264,7 @@ fn script_of(alloc: Global) -> Option<Script> {
     read_script(alloc, text.as_slice()).ok()
 }
 
-/// Whether the jobs behind the connect begin with those of the script.
+/// Reports whether the jobs after the connect begin with those of the script.
 fn begin_so(alloc: Global, jobs: &[Job], script: &Script) -> Option<bool> {
     let mut place = 1usize;
     for line in script.as_slice() {
@@ -258,12 +276,12 @@ fn begin_so(alloc: Global, jobs: &[Job], script: &Script) -> Option<bool> {
     Some(true)
 }
 
-/// The scripts of four clients, without promises.
+/// The scripts of four clients. The function promises nothing, so that its callers are cheap to prove.
 fn scripts_of(alloc: Global) -> Option<Vec<Vec<Job>>> {
     made_scripts(alloc, 7).ok()
 }
 
-/// Four scripts of 202 jobs are drawn, and the first one begins with these lines.
+/// Reports whether four scripts of 202 jobs are drawn, and the first one begins with these lines.
 fn are_drawn(alloc: Global) -> Option<bool> {
     let script = script_of(alloc)?;
     let scripts = scripts_of(alloc)?;
@@ -275,6 +293,7 @@ fn are_drawn(alloc: Global) -> Option<bool> {
     Some(is_so)
 }
 
+/// The seed 7 draws the first lines.
 #[test]
 fn lines_are_drawn(rt: HostRuntime) -> Result<(), Fail> {
     assert!(rt; are_drawn(rt.alloc()).unwrap_or(false));

@@ -1,4 +1,4 @@
-// Partners that do what texts say.
+//! Partners that do the steps of texts.
 use crate::octets::{cut, joined, some_octets};
 use crate::words::{MOST, filled, hex_number, number, small};
 use s7_client::Config;
@@ -10,39 +10,39 @@ use std::alloc::Global;
 /// A text of lines in which `$1` to `$6` are the fields of a row, and its rows, or the name of a text without fields.
 pub(crate) type Form = (&'static str, &'static str);
 
-/// A row with which a form doesn't hold, and the number of the line that doesn't.
+/// A row with which a form doesn't hold, and the number of the line that doesn't hold.
 pub(crate) type Unmet = (&'static str, usize);
 
-/// A partner, and what it was given and told.
+/// A partner, its side, and its blocks.
 struct Talker {
     partner: Partner,
     side: Side,
-    /// The last block that it was given.
+    /// The last block that it took.
     rid: u32,
     octets: Vec<u8>,
-    /// How many blocks it was given, were acknowledged, and came to it.
+    /// The numbers of blocks that it took, that were acknowledged, and that it received.
     given: u32,
     sent: u32,
     received: u32,
 }
 
-/// What partners are polled over: a line in memory where there is one, or else their ends of the pipes.
+/// The links of partners: a line in memory if there is one, or else their ends of the pipes.
 struct Links {
     alloc: Global,
-    /// How many octets a line that is laid moves in a call.
+    /// The greatest number of octets that a new line moves in a call.
     most: usize,
     line: Option<FailingLink<MemoryLink>>,
     pipes: Pipes,
 }
 
-/// An active partner `a`, which has the client's end of the pipes, and a passive one `b`.
+/// An active partner `a` at the client's end of the pipes, and a passive one `b`.
 struct Scene {
     a: Talker,
     b: Talker,
     links: Links,
 }
 
-// Each of these is dropped by a function of its own, so that what drops it is soon proved.
+/// Each of these is dropped by a function of its own, so that its callers are cheap to prove.
 impl Drop for Talker {
     fn drop(self) {
         let Talker {
@@ -99,7 +99,7 @@ fn new_talker(alloc: Global, side: Side, pdu: u16) -> Option<Talker> {
     })
 }
 
-/// `PDU ROOM`: partners of this PDU, and pipes with this room, 4,096 octets where none is given.
+/// `PDU ROOM`: partners of this PDU length, and pipes with this room, or 4,096 octets.
 fn anew(alloc: Global, args: &str) -> Option<Scene> {
     let (pdu, room) = cut(args);
     let pdu = small(pdu);
@@ -114,7 +114,7 @@ fn anew(alloc: Global, args: &str) -> Option<Scene> {
     Some(Scene { a, b, links })
 }
 
-/// How many octets a pipe has room for.
+/// The number of octets for which a pipe has room.
 fn room_of(text: &str) -> usize {
     if text.is_empty() {
         return 4_096;
@@ -122,7 +122,7 @@ fn room_of(text: &str) -> usize {
     usize::from(small(text))
 }
 
-/// So many calls that pass, and one with this fate.
+/// Calls that pass, as many as the text says, and one with this fate.
 fn fates_of(alloc: Global, passed: &str, fate: Fate) -> Option<Vec<Fate>> {
     let mut fates = Vec::new(alloc);
     for _ in 0..number(passed).min(MOST) {
@@ -132,8 +132,7 @@ fn fates_of(alloc: Global, passed: &str, fate: Fate) -> Option<Vec<Fate>> {
     Some(fates)
 }
 
-/// The partners are polled over a line that gives these octets and has room for what is written. Its call behind so
-/// many has this fate.
+/// Lays a line that gives these octets and has room for what is written. The call after `passed` calls has this fate.
 fn lays(links: &mut Links, passed: &str, fate: Fate, words: &str) -> Option<bool> {
     let fates = fates_of(links.alloc, passed, fate)?;
     let input = Octets::of_vec(joined(links.alloc, words)?);
@@ -142,18 +141,18 @@ fn lays(links: &mut Links, passed: &str, fate: Fate, words: &str) -> Option<bool
     Some(true)
 }
 
-/// The lines that are laid from now on move at most so many octets in a call.
+/// Sets the greatest number of octets that new lines move in a call.
 fn moves(links: &mut Links, args: &str) -> Option<bool> {
     links.most = usize::from(small(args));
     Some(true)
 }
 
-/// What one poll tells. Nothing is promised of it, so that what calls this is soon proved.
+/// The event of one poll. The function promises nothing, so that its callers are cheap to prove.
 fn polled<L: Link>(partner: &mut Partner, alloc: Global, link: &mut L) -> Option<PartnerEvent> {
     partner.poll(alloc, link).ok()
 }
 
-/// What a poll over the line or the pipes tells.
+/// The event of a poll over the line or the pipes.
 fn poll(me: &mut Talker, links: &mut Links) -> Option<PartnerEvent> {
     match &mut links.line {
         Some(line) => polled(&mut me.partner, links.alloc, line),
@@ -167,7 +166,7 @@ fn poll(me: &mut Talker, links: &mut Links) -> Option<PartnerEvent> {
     }
 }
 
-/// Why a block isn't taken.
+/// The word for the fault for which a block isn't taken. It is empty if the block is taken.
 fn refusal(partner: &mut Partner, rid: u32, body: Octets) -> &'static str {
     match partner.b_send(rid, body) {
         Ok(()) => "",
@@ -177,7 +176,7 @@ fn refusal(partner: &mut Partner, rid: u32, body: Octets) -> &'static str {
     }
 }
 
-/// Gives a block, which is taken.
+/// Gives a block. Reports whether it is taken.
 fn gives(me: &mut Talker, alloc: Global, rid: u32, octets: Vec<u8>) -> Option<bool> {
     let body = Octets::copy_of(alloc, octets.as_slice()).ok()?;
     me.rid = rid;
@@ -186,7 +185,7 @@ fn gives(me: &mut Talker, alloc: Global, rid: u32, octets: Vec<u8>) -> Option<bo
     Some(refusal(&mut me.partner, rid, body).is_empty())
 }
 
-/// `RID OCTETS`: gives this block, which is taken. `RID OCTETS FAULT`: it isn't.
+/// `RID OCTETS`: the partner takes this block. `RID OCTETS FAULT`: it doesn't, for this fault.
 fn gives_text(me: &mut Talker, alloc: Global, args: &str) -> Option<bool> {
     let (rid, args) = cut(args);
     let (word, fault) = cut(args);
@@ -198,7 +197,7 @@ fn gives_text(me: &mut Talker, alloc: Global, args: &str) -> Option<bool> {
     Some(refusal(&mut me.partner, rid, Octets::of_vec(octets)) == fault)
 }
 
-/// The next poll tells this.
+/// Reports whether the next poll has this event.
 fn tells(me: &mut Talker, links: &mut Links, text: &str) -> Option<bool> {
     match &poll(me, links)? {
         PartnerEvent::Sent => Some(text == "sent"),
@@ -224,7 +223,7 @@ fn is_closed(partner: &Partner, code: u32, text: &str) -> Option<bool> {
     Some(verb == "closed" && hex_number(args) == code && partner.closed()? == code)
 }
 
-/// Polls so often.
+/// Polls this number of times.
 fn polls(me: &mut Talker, links: &mut Links, count: u64) -> Option<bool> {
     for _ in 0..count {
         let _event = poll(me, links)?;
@@ -232,8 +231,8 @@ fn polls(me: &mut Talker, links: &mut Links, count: u64) -> Option<bool> {
     Some(true)
 }
 
-/// The next poll tells what it may: the last block that was given is acknowledged, or the last block that the other
-/// was given comes, or that a block is outstanding, or that none is.
+/// Reports whether the next poll has an event that may come: the last block that the partner took is acknowledged, the
+/// other's last block comes, or the poll says whether a block is outstanding.
 fn turns(me: &mut Talker, other: &Talker, links: &mut Links) -> Option<bool> {
     let is_outstanding = me.sent < me.given;
     match &poll(me, links)? {
@@ -251,12 +250,12 @@ fn turns(me: &mut Talker, other: &Talker, links: &mut Links) -> Option<bool> {
     }
 }
 
-/// This is the last block that it was given.
+/// Reports whether this is the other's last block.
 fn is_last_of(other: &Talker, rid: u32, body: &[u8]) -> bool {
     rid == other.rid && body == other.octets.as_slice()
 }
 
-/// What a partner does.
+/// Reports whether a step of a partner holds.
 fn does(me: &mut Talker, other: &Talker, links: &mut Links, text: &str) -> Option<bool> {
     let (verb, args) = cut(text);
     match verb {
@@ -271,10 +270,10 @@ fn does(me: &mut Talker, other: &Talker, links: &mut Links, text: &str) -> Optio
     }
 }
 
-/// How many blocks each side gives where turns are drawn.
+/// The number of blocks of each side if turns are drawn.
 const BLOCKS: u32 = 30;
 
-/// Gives the next block where none is outstanding, and polls. Each block has another length.
+/// Gives the next block if none is outstanding, and polls. Each block has another length.
 fn talks(me: &mut Talker, other: &Talker, links: &mut Links) -> Option<bool> {
     if me.given == me.sent && me.given < BLOCKS {
         let octets = some_octets(links.alloc, me.given * 7 + 1)?;
@@ -286,7 +285,7 @@ fn talks(me: &mut Talker, other: &Talker, links: &mut Links) -> Option<bool> {
     turns(me, other, links)
 }
 
-/// 20,000 turns that are drawn by a linear congruence modulo 2^31.
+/// Does 20,000 turns, drawn by a linear congruence modulo 2^31.
 fn draws(scene: &mut Scene, seed: u64) -> Option<bool> {
     let mut x = u32::try_from(seed).ok()?;
     for _ in 0..20_000 {
@@ -303,13 +302,13 @@ fn draws(scene: &mut Scene, seed: u64) -> Option<bool> {
     Some(true)
 }
 
-/// The octets were written on the line.
+/// Reports whether these are the octets that were written on the line.
 fn wrote(links: &Links, words: &str) -> Option<bool> {
     let octets = joined(links.alloc, words)?;
     Some(links.line.as_ref()?.inner().written() == octets.as_slice())
 }
 
-/// `N OCTETS`: the first N of the octets were written on the line, and no more.
+/// `N OCTETS`: reports whether N octets were written on the line, the first of these.
 fn began(links: &Links, args: &str) -> Option<bool> {
     let (count, words) = cut(args);
     let count = usize::from(small(count));
@@ -318,7 +317,7 @@ fn began(links: &Links, args: &str) -> Option<bool> {
     Some(links.line.as_ref()?.inner().written() == first)
 }
 
-/// What becomes of the links.
+/// Reports whether a step of the links holds.
 fn links_are(links: &mut Links, text: &str) -> Option<bool> {
     let (verb, args) = cut(text);
     let (passed, words) = cut(args);
@@ -333,13 +332,13 @@ fn links_are(links: &mut Links, text: &str) -> Option<bool> {
     }
 }
 
-/// Another scene takes its place.
+/// Replaces the scene by a new one.
 fn renews(scene: &mut Scene, args: &str) -> Option<bool> {
     *scene = anew(scene.links.alloc, args)?;
     Some(true)
 }
 
-/// A step of a line.
+/// Reports whether a step of a line holds.
 fn step(scene: &mut Scene, text: &str) -> Option<bool> {
     let (who, rest) = cut(text);
     match who {
@@ -351,7 +350,7 @@ fn step(scene: &mut Scene, text: &str) -> Option<bool> {
     }
 }
 
-/// The steps of a line.
+/// Reports whether the steps of a line hold.
 fn steps(scene: &mut Scene, line: &str) -> Option<bool> {
     for text in line.split(", ") {
         if !step(scene, text)? {
@@ -361,7 +360,7 @@ fn steps(scene: &mut Scene, line: &str) -> Option<bool> {
     Some(true)
 }
 
-/// A line holds. Where it begins with a number of times, its steps are done so often.
+/// Reports whether a line holds. A number of times at its beginning repeats its steps.
 fn repeat(scene: &mut Scene, text: &str) -> Option<bool> {
     let (count, text) = text.split_once(" times: ").unwrap_or(("1", text));
     for _ in 0..number(count).min(MOST) {
@@ -372,7 +371,7 @@ fn repeat(scene: &mut Scene, text: &str) -> Option<bool> {
     Some(true)
 }
 
-/// The number of the first line that doesn't hold, from 0, where all are done one after another.
+/// The number of the first line that doesn't hold, from 0, if all are done one after another.
 fn unmet_line(scene: &mut Scene, text: &str) -> Option<usize> {
     let mut number = 0usize;
     for line in text.lines() {
@@ -384,7 +383,7 @@ fn unmet_line(scene: &mut Scene, text: &str) -> Option<usize> {
     None
 }
 
-/// A line holds: steps, a comment behind `#`, or nothing.
+/// Reports whether a line holds. It has steps, a comment after `#`, or nothing.
 fn line_holds(scene: &mut Scene, line: &str) -> bool {
     line.is_empty() || line.starts_with('#') || repeat(scene, line) == Some(true)
 }
@@ -397,7 +396,7 @@ fn unmet_with(alloc: Global, form: &str, row: &str) -> Option<usize> {
     }
 }
 
-/// The first row with which a line of the form doesn't hold, and that line's number.
+/// The first row with which a line of the form doesn't hold, and the number of that line.
 fn unmet_row(alloc: Global, form: &Form) -> Option<Unmet> {
     let (form, rows) = *form;
     for row in rows.lines() {

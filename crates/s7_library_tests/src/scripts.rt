@@ -1,8 +1,8 @@
-// Scripts: the first wrong line, and what is wrong with it.
+//! Wrong scripts: their first wrong lines, and the faults of these.
 use crate::wrong_lines::{Row, Wrong};
 use s7_script::ScriptKind;
 
-/// The first wrong lines.
+/// The first wrong lines of scripts.
 pub(crate) const WRONG_LINES: &[Row] = &[
     (
         1,

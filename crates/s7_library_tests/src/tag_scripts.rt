@@ -1,5 +1,6 @@
-// Tag scripts: the jobs that their lines name, the first wrong line, and what is printed of a job that gets or puts.
-use crate::asks::{is_same, job_of};
+//! Tests of scripts that name tags: the jobs of their lines, their first wrong lines, and the lines of results of jobs
+//! that get or put a tag.
+use crate::asks::is_job;
 use crate::printing::done_of;
 use crate::wrong_lines::{Row, Wrong};
 use s7_client::JobResult;
@@ -19,24 +20,28 @@ Name STRING[4] DB65535 20
 Moment DATE_AND_TIME PA 100
 ";
 
-/// The tags. Nothing is promised of them, so that what calls this is soon proved.
-fn tags_of(alloc: Global) -> Option<Tags> {
-    read_tags(alloc, TAGS.as_bytes()).ok()
+/// The tags of a tag file. The function promises nothing, so that its callers are cheap to prove.
+pub(crate) fn tags_of(alloc: Global, text: &str) -> Option<Tags> {
+    read_tags(alloc, text.as_bytes()).ok()
 }
 
-/// The jobs of a text, of which nothing is promised either.
-fn lines_of(alloc: Global, tags: &Tags, text: &str) -> Option<Vec<ScriptLine>> {
-    Some(
-        read_tag_script(alloc, text.as_bytes(), tags)
-            .ok()?
-            .into_vec(),
-    )
+/// The lines of a script with tags, or its first wrong line and the fault of that line. The function promises nothing,
+/// so that its callers are cheap to prove.
+pub(crate) fn lines_of(
+    alloc: Global,
+    tags: &Tags,
+    text: &str,
+) -> Result<Vec<ScriptLine>, (u32, ScriptKind)> {
+    match read_tag_script(alloc, text.as_bytes(), tags) {
+        Ok(script) => Ok(script.into_vec()),
+        Err(fault) => Err((fault.line, fault.kind)),
+    }
 }
 
 /// The last line of a text that names a job.
 fn last_line(alloc: Global, text: &str) -> Option<ScriptLine> {
-    let tags = tags_of(alloc)?;
-    lines_of(alloc, &tags, text)?.pop()
+    let tags = tags_of(alloc, TAGS)?;
+    lines_of(alloc, &tags, text).ok()?.pop()
 }
 
 /// A text, the type of the tag that its last line gets or puts, and the job of that line.
@@ -95,14 +100,14 @@ const JOBS: &[Named] = &[
     ("get Speed\n# x\nstop", None, "stop"),
 ];
 
-/// The last line of a text names this job, and gets or puts a tag of this type.
+/// Reports whether the last line of a text names this job, and gets or puts a tag of this type.
 fn names(alloc: Global, row: &Named) -> Option<bool> {
     let (text, kind, job) = *row;
     let line = last_line(alloc, text)?;
-    let job = job_of(alloc, job)?;
-    Some(line.tag == kind && is_same(alloc, &line.job, &job)?)
+    Some(is_job(alloc, &line.job, job)? && line.tag == kind)
 }
 
+/// Lines name the jobs of the rows.
 #[test]
 fn lines_name_jobs(rt: HostRuntime) {
     for row in JOBS {
@@ -110,7 +115,7 @@ fn lines_name_jobs(rt: HostRuntime) {
     }
 }
 
-/// The first wrong lines.
+/// The first wrong lines of scripts with tags.
 pub(crate) const WRONG_LINES: &[Row] = &[
     (
         1,
@@ -179,7 +184,7 @@ pub(crate) const WRONG_LINES: &[Row] = &[
     ),
 ];
 
-/// A text, the number that the job of its last line ends with, the octets that it reads, and what is printed of it.
+/// A text, the code of the job of its last line, the octets that the job reads, and the line that is printed.
 type Told = (&'static str, u32, &'static str, &'static str);
 
 /// The results.
@@ -240,24 +245,25 @@ const PRINTED: &[Told] = &[
     ),
 ];
 
-/// The line that is printed, of which nothing is promised.
-fn text_of(alloc: Global, line: u32, kind: TagKind, done: &JobResult) -> Option<Octets> {
-    print_tag(alloc, line, kind, done).ok()
+/// The line that is printed. The function promises nothing, so that its callers are cheap to prove.
+fn text_of(alloc: Global, line: u32, kind: Option<TagKind>, done: &JobResult) -> Option<Octets> {
+    print_tag(alloc, line, kind?, done).ok()
 }
 
-/// The line that is printed where the job of the last line of a text ends with this number and these octets.
+/// The line that is printed if the job of the last line of a text ends with this code and these octets.
 fn printed(alloc: Global, text: &str, code: u32, octets: &str) -> Option<Octets> {
     let ScriptLine { line, job, tag } = last_line(alloc, text)?;
     let done = done_of(alloc, job, code, octets)?;
-    text_of(alloc, line, tag?, &done)
+    text_of(alloc, line, tag, &done)
 }
 
-/// The line of a row is printed.
+/// Reports whether the line of a row is printed.
 fn prints(alloc: Global, row: &Told) -> Option<bool> {
     let (text, code, octets, wanted) = *row;
     Some(printed(alloc, text, code, octets)?.as_slice() == wanted.as_bytes())
 }
 
+/// The lines of the rows are printed.
 #[test]
 fn results_are_printed(rt: HostRuntime) {
     for row in PRINTED {

@@ -1,19 +1,20 @@
-// Watchers: the jobs of their reads, and the lines of the results that are taken.
+//! Tests of watchers of tags: the jobs of their reads, and the lines of the results that they take.
 ghost use Rattle.std.specs.Prelude.{◌≡◌, ◌≤◌, length, true, IfSome};
 ghost use Rattle.s7_client.specs.Form.{count_read, octets_read};
 ghost use Rattle.s7_script.specs.Printing.{IsPrintableOf};
 
-use crate::asks::{is_same, job_of};
+use crate::asks::is_job;
+use crate::tag_scripts::tags_of;
 use crate::words::octets_of;
 use s7_client::{Job, JobResult};
 use s7_item::Item;
 use s7_item::codes::GOOD;
 use s7_outer::Octets;
-use s7_symbol::{Tags, read_tags};
+use s7_symbol::Tags;
 use s7_watch::Watch;
 use std::alloc::Global;
 
-/// A read: its job, the code with which it ends, the return codes of its items, the octets that were read, and the lines.
+/// A read: its job, its code, the return codes of its items, the octets that were read, and the lines.
 type Read = (&'static str, u32, &'static str, &'static str, &'static str);
 
 /// Tags, a number of rounds, and all reads. No job is left after them.
@@ -86,7 +87,7 @@ round 1 T19 0
 round 1 T20 1
 ";
 
-/// The watchers.
+/// Watchers and their reads.
 const WATCHED: &[Row] = &[
     (TWO, 0, &[]),
     // Values that stay are not printed again.
@@ -118,7 +119,7 @@ const WATCHED: &[Row] = &[
             (READ_TWO, 0, "FFFF", "00010007", "round 2 B 7\n"),
         ],
     ),
-    // Refused items give a code and no octets; octets that are no value are printed.
+    // Refused items have a code and no octets. Octets that aren't a value are printed.
     (
         THREE,
         5,
@@ -181,44 +182,55 @@ const WATCHED: &[Row] = &[
     ),
 ];
 
-/// What comes of a read.
-fn told_of(alloc: Global, job: Job, read: &Read) -> Option<JobResult>
-    ensures { IfSome result (λ told. told.job ≡ job) }
+/// The result of a job, with what the read says of it.
+fn result_of(alloc: Global, job: Job, read: &Read) -> Option<JobResult>
+    ensures { IfSome result (λ given. given.job ≡ job) }
 {
-    let given = octets_of(alloc, read.2)?;
+    let (codes, count) = codes_of(alloc, read.2)?;
+    Some(JobResult {
+        job,
+        code: read.1,
+        octets: octets(alloc, read.3)?,
+        codes,
+        count,
+        carried: Octets::of_vec(Vec::new(alloc)),
+    })
+}
+
+/// The first twenty return codes of a text, and the number of all.
+fn codes_of(alloc: Global, text: &str) -> Option<([u8; 20], u8)> {
+    let given = octets_of(alloc, text)?;
     let mut codes = [0; 20];
     for (k, code) in given.iter().enumerate() {
         if k < 20 {
             codes[k] = *code;
         }
     }
-    Some(JobResult {
-        job,
-        code: read.1,
-        octets: Octets::of_vec(octets_of(alloc, read.3)?),
-        codes,
-        count: u8::try_from(given.len()).ok()?,
-        carried: Octets::of_vec(Vec::new(alloc)),
-    })
+    Some((codes, u8::try_from(given.len()).ok()?))
 }
 
-/// Whether a result is that of a read of several items, with a code for each item and the octets of those that were read
-/// if it came off.
-fn is_read(told: &JobResult) -> bool
-    ensures { result ≡ true → told.now.code ≡ 0 → IsPrintableOf told.now told.now.job }
+/// The octets of a text.
+fn octets(alloc: Global, text: &str) -> Option<Octets> {
+    Some(Octets::of_vec(octets_of(alloc, text)?))
+}
+
+/// Reports whether a result is that of a read of several items, with a code for each item and the octets of those that
+/// were read if the job succeeded.
+fn is_read(done: &JobResult) -> bool
+    ensures { result ≡ true → done.now.code ≡ 0 → IsPrintableOf done.now done.now.job }
 {
-    let Job::ReadMany { items } = &told.job else {
+    let Job::ReadMany { items } = &done.job else {
         return false;
     };
-    if told.code != 0 {
+    if done.code != 0 {
         return true;
     }
-    let count = usize::from(told.count);
+    let count = usize::from(done.count);
     let items = items.as_slice();
     if count > 20 || count != items.len() {
         return false;
     }
-    told.octets.as_slice().len() == octets_read(items, &told.codes[..count])
+    done.octets.as_slice().len() == octets_read(items, &done.codes[..count])
 }
 
 /// The number of octets that items with these codes give.
@@ -242,10 +254,9 @@ fn count_read(item: &Item, code: u8) -> usize
     if code == GOOD { item.octet_count() } else { 0 }
 }
 
-/// A watcher of the tags of a text, of which nothing is promised. There is none for a text without a tag.
+/// A watcher of the tags of a text. There is none for a text without a tag.
 fn watch_of(alloc: Global, text: &str, rounds: u32) -> Option<Watch> {
-    let tags = read_tags(alloc, text.as_bytes()).ok()?;
-    new_watch(alloc, &tags, rounds)
+    new_watch(alloc, &tags_of(alloc, text)?, rounds)
 }
 
 /// A watcher of these tags, if there is one.
@@ -256,29 +267,40 @@ fn new_watch(alloc: Global, tags: &Tags, rounds: u32) -> Option<Watch> {
     Watch::new(alloc, tags, rounds).ok()
 }
 
-/// The next job is that of the read, and its result gives these lines.
-fn reads(alloc: Global, watch: &mut Watch, read: &Read) -> Option<bool> {
-    let job = watch.job(alloc).ok()??;
-    let is_job = is_same(alloc, &job, &job_of(alloc, read.0)?)?;
-    let told = told_of(alloc, job, read)?;
-    if !is_read(&told) {
+/// The lines that a watcher gives for the result of its next job, if that job is the read's.
+fn lines_of(alloc: Global, watch: &mut Watch, read: &Read) -> Option<Octets> {
+    let Ok(Some(job)) = watch.job(alloc) else {
+        return None;
+    };
+    if is_job(alloc, &job, read.0) != Some(true) {
         return None;
     }
-    let lines = watch.take(alloc, &told).ok()?;
-    Some(is_job && lines.as_slice() == read.4.as_bytes())
+    let Some(done) = result_of(alloc, job, read) else {
+        return None;
+    };
+    if !is_read(&done) {
+        return None;
+    }
+    watch.take(alloc, &done).ok()
 }
 
-/// The reads of a row come one after another, and no job is left.
+/// Reports whether the watcher has no next job.
+fn is_over(alloc: Global, watch: &mut Watch) -> bool {
+    matches!(watch.job(alloc), Ok(None))
+}
+
+/// Reports whether the reads of a row come one after another, and no job is left.
 fn watches(alloc: Global, row: &Row) -> Option<bool> {
     let mut watch = watch_of(alloc, row.0, row.1)?;
     for read in row.2 {
-        if !reads(alloc, &mut watch, read)? {
+        if lines_of(alloc, &mut watch, read)?.as_slice() != read.4.as_bytes() {
             return Some(false);
         }
     }
-    Some(watch.job(alloc).ok()?.is_none())
+    Some(is_over(alloc, &mut watch))
 }
 
+/// Watchers ask for their jobs in order, and print the samples that changed.
 #[test]
 fn changes_are_printed(rt: HostRuntime) {
     for (k, row) in WATCHED.iter().enumerate() {

@@ -1,5 +1,5 @@
-// What the words of a text say: numbers, octets and items. A number that can't be read is the greatest, and nothing
-// that a text looks at is that.
+//! The words of texts: numbers, octets and items. A number that can't be read is the greatest one, which no text
+//! expects.
 use s7_item::Item;
 use std::alloc::Global;
 
@@ -28,7 +28,7 @@ pub(crate) fn hex_octet(text: &str) -> u8 {
     u8::try_from(hex_number(text)).unwrap_or(u8::MAX)
 }
 
-/// What stands before a mark and behind it.
+/// The text before a mark, and the text after it.
 pub(crate) fn parted(text: &str, mark: char) -> (&str, &str) {
     match text.split_once(mark) {
         Some((before, behind)) => (before.trim(), behind.trim()),
@@ -36,16 +36,16 @@ pub(crate) fn parted(text: &str, mark: char) -> (&str, &str) {
     }
 }
 
-/// The part of this number, from 0, of those that marks separate. One that isn't there is empty.
+/// The part of this number, from 0, of the parts between marks. A part that isn't there is empty.
 pub(crate) fn part(text: &str, mark: char, n: usize) -> &str {
     text.split(mark).nth(n).unwrap_or("").trim()
 }
 
-/// No text has so many octets.
+/// More octets than any text has.
 pub(crate) const MOST: u64 = 1_000_000;
 
-/// The octets of words, joined: `HEX`, `HEX*N` for so many times these, and `FROM-TO` for those of the pattern from a
-/// place to another.
+/// The octets of words, joined: `HEX`, `HEX*N` for these N times, and `FROM-TO` for those of the pattern from one
+/// offset to another.
 pub(crate) fn octets_of(alloc: Global, text: &str) -> Option<Vec<u8>> {
     let mut octets = Vec::new(alloc);
     for word in text.split_ascii_whitespace() {
@@ -62,7 +62,7 @@ pub(crate) fn add_word(alloc: Global, octets: &mut Vec<u8>, word: &str) -> Optio
     }
 }
 
-/// Adds octets once, or so often as the word says.
+/// Adds octets once, or as often as the word says.
 fn add_often(alloc: Global, octets: &mut Vec<u8>, word: &str) -> Option<()> {
     let (piece, times) = word.split_once('*').unwrap_or((word, "1"));
     let piece = hex::decode(alloc, piece).ok()?;
@@ -72,7 +72,7 @@ fn add_often(alloc: Global, octets: &mut Vec<u8>, word: &str) -> Option<()> {
     Some(())
 }
 
-/// Octets of the pattern, which rises from 00 to FA and begins anew.
+/// Adds octets of the pattern, which rises from 00 to FA and begins anew.
 pub(crate) fn add_pattern(octets: &mut Vec<u8>, from: u64, to: u64) -> Option<()> {
     for place in from..to.min(MOST) {
         octets.push((place % 251) as u8).ok()?;
@@ -80,7 +80,7 @@ pub(crate) fn add_pattern(octets: &mut Vec<u8>, from: u64, to: u64) -> Option<()
     Some(())
 }
 
-/// These are the octets of the words.
+/// Reports whether these are the octets of the words.
 pub(crate) fn are(alloc: Global, text: &str, octets: &[u8]) -> bool {
     match octets_of(alloc, text) {
         Some(wanted) => wanted.as_slice() == octets,
@@ -108,7 +108,7 @@ pub(crate) fn items_of(alloc: Global, text: &str) -> Option<Vec<Item>> {
     Some(items)
 }
 
-/// The form with the fields of a row, which stand between `|`, in the places of `$1` to `$6`.
+/// The form with the fields of a row, which has `|` between them, in the places of `$1` to `$6`.
 pub(crate) fn filled(alloc: Global, form: &str, row: &str) -> Option<String> {
     let mut text = String::from_str(alloc, form).ok()?;
     let mut marks = ["$1", "$2", "$3", "$4", "$5", "$6"].as_slice();
