@@ -2,7 +2,7 @@
 use Rattle.std.proofs.Common.{refl, codes, None, Some}
 use Rattle.s7_args.specs.Fields.{port, journal}
 use Rattle.s7_args.specs.Server.{pipe_line, save, serve_line, links, at_entry}
-use Rattle.s7_args.specs.Tool.{run_line, host, kind, rack, slot, pdu, polls, jobs, rig_line, turns, seed, steps, tags, gen_line, partner_line}
+use Rattle.s7_args.specs.Tool.{run_line, host, kind, rack, slot, pdu, polls, jobs, rig_line, turns, seed, steps, tags, watch, rounds, gen_line, partner_line}
 use Rattle.s7_args.proofs.Commands.{IsCommand, long_known}
 
 pub pipe_is : IsCommand (codes "pipe") pipe_line
@@ -51,10 +51,10 @@ rig_is = record {
   is_simple_too = refl;
   has_name = refl;
   fields = refl;
-  known = (long_known _ turns refl refl, (long_known _ seed refl refl, (long_known _ steps refl refl, (long_known _ pdu refl refl, (long_known _ journal refl refl, (long_known _ jobs refl refl, (long_known _ tags refl refl, tt)))))));
+  known = (long_known _ turns refl refl, (long_known _ seed refl refl, (long_known _ steps refl refl, (long_known _ pdu refl refl, (long_known _ journal refl refl, (long_known _ jobs refl refl, (long_known _ tags refl refl, (long_known _ watch refl refl, (long_known _ rounds refl refl, tt)))))))));
   placed = (refl, record { long = None; index = Some 1; found = refl; small = refl }, (refl, record { long = None; index = Some 2; found = refl; small = refl }, refl));
   operands = (refl, (refl, tt));
-  options = (refl, (refl, (refl, (refl, (refl, (refl, (refl, tt)))))));
+  options = (refl, (refl, (refl, (refl, (refl, (refl, (refl, (refl, (refl, tt)))))))));
 }
 
 pub gen_is : IsCommand (codes "gen") gen_line

@@ -2,7 +2,7 @@
 use Rattle.std.proofs.Common.{refl, codes}
 use Rattle.s7_args.specs.Fields.{port, journal}
 use Rattle.s7_args.specs.Server.{pipe_line, serve_line, links, at_entry}
-use Rattle.s7_args.specs.Tool.{run_line, kind, rack, slot, pdu, polls, jobs, rig_line, seed, steps, gen_line, made_from, partner_line}
+use Rattle.s7_args.specs.Tool.{run_line, kind, rack, slot, pdu, polls, jobs, rig_line, seed, steps, rounds, gen_line, made_from, partner_line}
 use Rattle.s7_args.proofs.Commands.{ReadsNumber, ReadsOption, number_is, number_or_is}
 use Rattle.s7_args.proofs.Lines.{pipe_is, serve_is, run_is, rig_is, gen_is, partner_is}
 
@@ -56,6 +56,12 @@ rig_journal_is = number_or_is (codes "rig") rig_line rig_is journal 64 1 262144 
 
 pub rig_jobs_is : ReadsNumber (codes "rig") rig_line rig_is jobs 16 1 8 1
 rig_jobs_is = number_or_is (codes "rig") rig_line rig_is jobs 16 1 8 1 refl refl refl refl
+
+pub rounds_given : ReadsOption (codes "rig") rig_line rig_is rounds 32
+rounds_given = number_is (codes "rig") rig_line rig_is rounds 32 1 10000 refl refl refl
+
+pub rounds_is : ReadsNumber (codes "rig") rig_line rig_is rounds 32 1 10000 1
+rounds_is = number_or_is (codes "rig") rig_line rig_is rounds 32 1 10000 1 refl refl refl refl
 
 pub made_from_is : ReadsNumber (codes "gen") gen_line gen_is made_from 32 0 4294967295 0
 made_from_is = number_or_is (codes "gen") gen_line gen_is made_from 32 0 4294967295 0 refl refl refl refl

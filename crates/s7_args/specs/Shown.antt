@@ -55,6 +55,8 @@ rig_told_of r = record {
   journal = r.journal;
   jobs = r.jobs;
   tags = option_map (λ s. s.now) r.tags;
+  watch = option_map (λ s. s.now) r.watch;
+  rounds = r.rounds;
 }
 
 abbrev pub partner_told_of : PartnerWords → PartnerTold

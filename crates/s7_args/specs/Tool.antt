@@ -1,10 +1,10 @@
 -- The command line of the tool, this project's own, with options in GNU form.
-use Rattle.std.specs.Prelude.{ℕ, Bool, codes, List, [], ◌∷◌, map, length, ◌*◌, ◌==◌, ◌&&◌, nat_le, nat_lt}
-use Rattle.std.specs.Prelude.{Option, Some, None, option_map, option_and_then, if◌then◌else◌}
+use Rattle.std.specs.Prelude.{ℕ, Bool, codes, List, [], ◌∷◌, map, length, ◌+◌, ◌*◌, ◌==◌, ◌&&◌, not, nat_le, nat_lt}
+use Rattle.std.specs.Prelude.{Option, Some, None, is_some, option_map, option_and_then, if◌then◌else◌}
 use Rattle.std.specs.List.{list_all, slice_split}
 use Rattle.std.specs.Str.{bytes_eq}
 use Rattle.s7_args.specs.CommandLine.{Text, Field, CommandLine, Given, given_by, is_number, number_of, value_of, values_of}
-use Rattle.s7_args.specs.Fields.{operand, operands, optional, numeral, text, number, areas, port, journal, text_or, number_or}
+use Rattle.s7_args.specs.Fields.{operand, operands, optional, numeral, text, number, areas, port, journal, text_or, number_given, number_or}
 
 -- how a script is run: against which controller, over which connection, with how many polls and parallel jobs, and
 -- with the tags of which file
@@ -21,7 +21,8 @@ pub record RunTold : Type 0 where
   pub tags : Option Text
 
 -- how scripts are run together: on which areas, in which turns, over which connections, with how
--- large a journal and how many parallel jobs, and with the tags of which file
+-- large a journal and how many parallel jobs, and with the tags of which file; and the tags of which file are watched, in
+-- how many rounds
 pub record RigTold : Type 0 where
   pub areas : Text
   pub scripts : List Text
@@ -32,6 +33,8 @@ pub record RigTold : Type 0 where
   pub journal : ℕ
   pub jobs : ℕ
   pub tags : Option Text
+  pub watch : Option Text
+  pub rounds : ℕ
 
 -- the sends file of the first partner, and that of the second; `None` if the second is reached at a host and port
 pub record PartnerTold : Type 0 where
@@ -114,18 +117,31 @@ seed = number (codes "seed") 0 4294967295
 abbrev pub steps : Field
 steps = number (codes "steps") 0 1000000
 
+-- the tag file whose tags are watched
+abbrev pub watch : Field
+watch = text (codes "watch")
+
+-- the number of rounds in which they are read
+abbrev pub rounds : Field
+rounds = number (codes "rounds") 1 10000
+
 abbrev pub rig_line : CommandLine
 rig_line = record {
   operands = areas ∷ scripts ∷ [];
-  options = turns ∷ seed ∷ steps ∷ pdu ∷ journal ∷ jobs ∷ tags ∷ [];
+  options = turns ∷ seed ∷ steps ∷ pdu ∷ journal ∷ jobs ∷ tags ∷ watch ∷ rounds ∷ [];
 }
 
 abbrev pub most_scripts : ℕ
 most_scripts = 1024
 
--- each script has two actors
-abbrev pub actors : List Text → ℕ
-actors given = 2 * length given
+-- a client for each script, and one more if tags are watched
+abbrev pub client_count : {A : Type 0} → ℕ → Option A → ℕ
+client_count scripts None = scripts
+client_count scripts (Some watched) = scripts + 1
+
+-- each client has two actors
+abbrev pub actors : List Text → Option Text → ℕ
+actors paths watched = 2 * client_count (length paths) watched
 
 abbrev pub is_comma : ℕ → Bool
 is_comma b = b == 44
@@ -156,13 +172,20 @@ rig_with given paths order = rig (record {
   journal = number_or given journal 65536;
   jobs = number_or given jobs 1;
   tags = value_of given tags.name;
+  watch = value_of given watch.name;
+  rounds = number_or given rounds 1;
 })
+
+-- rounds were given, and no tags to be read in them
+abbrev pub lacks_watch : Option Text → Option ℕ → Bool
+lacks_watch watched count = is_some count && not (is_some watched)
 
 abbrev pub rig_of : Given → Option ToolTold
 rig_of given =
     let paths = values_of given scripts.name in
-    if nat_le (length paths) most_scripts
-    then option_map (rig_with given paths) (turns_or_none (actors paths) (value_of given turns.name))
+    let watched = value_of given watch.name in
+    if nat_le (length paths) most_scripts && not (lacks_watch watched (number_given given rounds))
+    then option_map (rig_with given paths) (turns_or_none (actors paths watched) (value_of given turns.name))
     else None
 
 -- ---- gen N

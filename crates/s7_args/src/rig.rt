@@ -1,9 +1,9 @@
 //! The command `rig`.
-ghost use Rattle.std.specs.Prelude.{◌≡◌, IfOk, codes, drop, map, option_and_then, option_map};
+ghost use Rattle.std.specs.Prelude.{◌≡◌, ◌≤◌, IfOk, codes, drop, length, map, option_and_then, option_map};
 ghost use Rattle.clap.specs.Words.{app_of};
 ghost use Rattle.s7_args.specs.Built.{app_by};
 ghost use Rattle.s7_args.specs.CommandLine.{given_by};
-ghost use Rattle.s7_args.specs.Tool.{rig_line, rig_of};
+ghost use Rattle.s7_args.specs.Tool.{client_count, lacks_watch, rig_line, rig_of};
 ghost use Rattle.s7_args.specs.Shown.{tool_told_of};
 
 use crate::RigWords;
@@ -32,7 +32,12 @@ pub(crate) fn read_rig<'a>(
     if MOST_SCRIPTS < scripts.len() {
         return Ok(None);
     }
-    let actors = 2 * scripts.len() as u32;
+    let watch = matches.get_str("watch");
+    let rounds = matches.get_one::<u32>("rounds");
+    if lacks_watch(watch, rounds) {
+        return Ok(None);
+    }
+    let actors = 2 * client_count(scripts, watch);
     let Some(turns) = read_turns(alloc, matches.get_str("turns"), actors)? else {
         return Ok(None);
     };
@@ -46,8 +51,29 @@ pub(crate) fn read_rig<'a>(
         journal: matches.get_one::<u64>("journal").unwrap_or(65_536),
         jobs: matches.get_one::<u16>("jobs").unwrap_or(1),
         tags: matches.get_str("tags"),
+        watch,
+        rounds: rounds.unwrap_or(1),
     };
     Ok(Some(ToolWords::Rig(rig)))
+}
+
+/// Whether rounds were given, and no tags to be read in them.
+fn lacks_watch(watch: Option<&str>, rounds: Option<u32>) -> bool
+    ensures { result ≡ lacks_watch (option_map (λ w. w.now) watch.entry) rounds }
+{
+    rounds.is_some() && watch.is_none()
+}
+
+/// The number of clients: one for each script, and one more if tags are watched.
+fn client_count(scripts: &[&str], watch: Option<&str>) -> u32
+    requires { length scripts.now ≤ 1024 }
+    ensures { result ≡ client_count (length scripts.now) watch.entry }
+{
+    let count = scripts.len() as u32;
+    match watch {
+        Some(_) => count + 1,
+        None => count,
+    }
 }
 
 /// The command `rig` for the parser.
@@ -63,5 +89,7 @@ fn rig_command<'a>(alloc: Global) -> Result<Command<'a>, AllocError>
         .arg(number(alloc, "pdu", 64, 1_920))?
         .arg(number(alloc, "journal", 1, 262_144))?
         .arg(number(alloc, "jobs", 1, 8))?
-        .arg(text(alloc, "tags"))
+        .arg(text(alloc, "tags"))?
+        .arg(text(alloc, "watch"))?
+        .arg(number(alloc, "rounds", 1, 10_000))
 }

@@ -1,5 +1,6 @@
 //! The arguments of the command `rig`.
 ghost use Rattle.std.specs.Prelude.{◌≤◌, ◌<◌, ◌*◌, All, vec_len};
+ghost use Rattle.s7_args.specs.Tool.{client_count};
 
 /// The arguments of `rig`, which runs scripts together on one set of areas.
 #[derive(Debug, PartialEq, Eq, Drop)]
@@ -8,8 +9,8 @@ pub struct RigWords<'a> {
     pub areas: &'a str,
     /// The paths of the scripts, 1 to 1,024 of them, in order: any texts.
     pub scripts: Vec<&'a str>,
-    /// `--turns`, the actors of the first turns, in order. Each script has two actors, and the actors are numbered from
-    /// 0. The default is no turn.
+    /// `--turns`, the actors of the first turns, in order. Each script has two actors, and so has the watcher, if there
+    /// is one. The actors are numbered from 0. The default is no turn.
     pub turns: Vec<u32>,
     /// `--seed`, the seed of the turns after those, 0 to 4,294,967,295; the default is 0.
     pub seed: u32,
@@ -23,9 +24,13 @@ pub struct RigWords<'a> {
     pub jobs: u16,
     /// `--tags`, the path of the tag file whose tags the scripts may name: any text; the default is none.
     pub tags: Option<&'a str>,
+    /// `--watch`, the path of the tag file whose tags are watched: any text; the default is none.
+    pub watch: Option<&'a str>,
+    /// `--rounds`, the number of rounds in which these tags are read, 1 to 10,000; the default is 1.
+    pub rounds: u32,
     ghost least_scripts: { 1 ≤ vec_len scripts },
     ghost most_scripts: { vec_len scripts ≤ 1024 },
-    ghost actors: { All (λ turn. turn < 2 * vec_len scripts) turns.items },
+    ghost actors: { All (λ turn. turn < 2 * client_count (vec_len scripts) watch) turns.items },
     ghost most_steps: { steps ≤ 1000000 },
     ghost least_pdu: { 64 ≤ pdu },
     ghost most_pdu: { pdu ≤ 1920 },
@@ -33,4 +38,6 @@ pub struct RigWords<'a> {
     ghost most_journal: { journal ≤ 262144 },
     ghost least_jobs: { 1 ≤ jobs },
     ghost most_jobs: { jobs ≤ 8 },
+    ghost least_rounds: { 1 ≤ rounds },
+    ghost most_rounds: { rounds ≤ 10000 },
 }

@@ -20,9 +20,9 @@ pub enum ToolWords<'a> {
     /// `run SCRIPT [--host HOST] [--port N] [--type N] [--rack N] [--slot N] [--pdu N] [--polls N] [--jobs N] [--tags
     /// PATH]`: runs a script against a controller. `RunWords` states the ranges and defaults.
     Run(RunWords<'a>),
-    /// `rig AREAS SCRIPT... [--turns LIST] [--seed N] [--steps N] [--pdu N] [--journal N] [--jobs N] [--tags PATH]`:
-    /// runs scripts together, on one set of areas. LIST is one or more numbers, joined by `,`. `RigWords` states the
-    /// ranges and defaults.
+    /// `rig AREAS SCRIPT... [--turns LIST] [--seed N] [--steps N] [--pdu N] [--journal N] [--jobs N] [--tags PATH]
+    /// [--watch PATH [--rounds N]]`: runs scripts together, on one set of areas, and watches tags. LIST is one or more
+    /// numbers, joined by `,`. `RigWords` states the ranges and defaults.
     Rig(RigWords<'a>),
     /// `gen N`: makes areas and scripts from the seed N, 0 to 4,294,967,295, and runs the scripts together.
     Gen(u32),

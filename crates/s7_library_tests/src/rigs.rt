@@ -228,8 +228,8 @@ fn text_without_results(
         places: Vec::new(alloc),
     });
     let end = RigEnd { book, clients };
-    let text = rig_text(alloc, heads, &end).ok()?;
-    Some((text, are_good(heads, end.clients.as_slice())))
+    let text = rig_text(alloc, heads, &[], &end).ok()?;
+    Some((text, are_good(heads, 1, end.clients.as_slice())))
 }
 
 /// Reports whether a client of link 3 with one line that has no result is printed as unfinished, and the rig is not

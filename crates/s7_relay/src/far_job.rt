@@ -63,8 +63,7 @@ pub(crate) fn far_job(
             octets,
         } => {
             let items = far_items(alloc, windows, items.as_slice(), codes)?;
-            let places = places.list().as_slice();
-            let octets = far_octets(alloc, codes, places, octets.as_slice())?;
+            let octets = far_octets(alloc, codes, places.list().as_slice(), octets.as_slice())?;
             Ok(Some(Job::WriteMany {
                 items: ItemList::of_vec(items),
                 octets: Octets::of_vec(octets),

@@ -10,3 +10,4 @@ pub mod RunLemmas
 pub mod TagLemmas
 pub mod TextLemmas
 pub mod ToldLemmas
+pub mod WatchLemmas

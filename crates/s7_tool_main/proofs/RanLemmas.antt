@@ -27,13 +27,16 @@ use Rattle.s7_tool_main.specs.declared.load.LoadFault.{LoadFault}
 use Rattle.s7_tool_main.specs.declared.load.LoadFault.TheVariants as fault
 use Rattle.s7_tool_main.specs.Gen.{GenEnds, client_scripts, made_areas, made_config, made_turning}
 use Rattle.s7_tool_main.specs.GenText.{are_made_good, made_text}
-use Rattle.s7_tool_main.specs.Loading.{ReadsTags, StopsAtTags, refusal_line, script_reader}
+use Rattle.s7_tool_main.specs.Loading.{ReadsTags, ReadsWatch, StopsAtTags, StopsAtWatch, refusal_line, script_reader}
+use Rattle.s7_tool_main.specs.Loading.{watch_reader}
 use Rattle.s7_tool_main.specs.Report.{Printed, PrintsText, TellsFault, script_line, tags_line}
 use Rattle.s7_tool_main.specs.RigText.{ArePrintable, are_clients_good, rig_text}
-use Rattle.s7_tool_main.specs.Rigging.{ComesTo, FailsOther, IsPathOf, RanJobs, RanRig, RefusesAreas, RefusesOneScript}
-use Rattle.s7_tool_main.specs.Rigging.{RigEnds, areas_refusal_line, client_script}
+use Rattle.s7_tool_main.specs.Rigging.{ComesTo, FailsAfterTags, FailsOther, IsPathOf, RanJobs, RanRig, RefusesAfterTags}
+use Rattle.s7_tool_main.specs.Rigging.{RefusesAreas, RefusesOneScript, RefusesOther, RigEnds, areas_refusal_line}
+use Rattle.s7_tool_main.specs.Rigging.{rig_scripts}
 use Rattle.s7_tool_main.specs.Scripts.{ReadsScripts, StopsAt}
-use Rattle.s7_tool_main.proofs.TagLemmas.{fails_tags, refuses_tags, refuses_text, with_tags}
+use Rattle.s7_tool_main.proofs.TagLemmas.{fails_tags, fails_tags_by, refuses_tags, refuses_tags_by, refuses_text}
+use Rattle.s7_tool_main.proofs.TagLemmas.{with_tags, with_tags_by}
 
 -- all its results can be printed
 pub rig_prints : EndsPrint → RigsAreFormed → (opening : Memory) (limit : ℕ) (config : Config)
@@ -96,96 +99,122 @@ module _ (told : RigTold) (old new : FilesShown) (out out' : OutShown) where
   rig_untagged p f ended.Dial h t = absurd t
 
   module _ (known : Option (List Tag)) (tagged : ReadsTags told.tags old (λ found. found ≡ known)) where
-    refuses : RefusesAreas (naming told.areas) old (Printed out out') ⊎ RefusesOneScript known told old (Printed out out')
-        → ReadsTags told.tags old
-        (λ k. RefusesAreas (naming told.areas) old (Printed out out') ⊎ RefusesOneScript k told old (Printed out out'))
-    refuses h =
-        with_tags told.tags old known
-        (λ k. RefusesAreas (naming told.areas) old (Printed out out') ⊎ RefusesOneScript k told old (Printed out out'))
-        tagged h
+    refuses : RefusesAfterTags known told old (Printed out out')
+        → ReadsTags told.tags old (λ k. RefusesAfterTags k told old (Printed out out'))
+    refuses h = with_tags told.tags old known (λ k. RefusesAfterTags k told old (Printed out out')) tagged h
 
-    fails : FailsOther known told old new (Printed out out')
-        → ReadsTags told.tags old (λ k. FailsOther k told old new (Printed out out'))
-    fails h = with_tags told.tags old known (λ k. FailsOther k told old new (Printed out out')) tagged h
+    fails : FailsAfterTags known told old new (Printed out out')
+        → ReadsTags told.tags old (λ k. FailsAfterTags k told old new (Printed out out'))
+    fails h = with_tags told.tags old known (λ k. FailsAfterTags k told old new (Printed out out')) tagged h
 
-    -- the areas weren't loaded
-    pub rig_unopened : (f : AreasFault) (how : Ended) → Loads (naming told.areas) old new (Err f)
-        → TellsFault (areas_refusal_line f) (f ≡ areas.Failed) told.areas out out' how
+    -- the watch file wasn't loaded
+    pub rig_unwatched : (p : List ℕ) (f : LoadFault) (how : Ended) → StopsAtWatch told.watch old new p f
+        → TellsFault (refusal_line tags_line f) (f ≡ fault.Failed) p out out' how
         → RigEnds told old new out out' None how
-    rig_unopened f ended.Refused h t =
-        (refl, inr (refuses (inl (refuses_areas (naming told.areas) f old new (Printed out out') h t))))
-    rig_unopened f ended.File h t =
-        let failed = word_failed told.areas old new (h.failed (ap (λ x. Err x) t.0)) in (
+    rig_unwatched p f ended.Refused h t =
+        (refl, inr (refuses (inl (refuses_tags_by old new p f (Printed out out') watch_reader told.watch h t))))
+    rig_unwatched p f ended.File h t =
+        (refl, inr (fails (inl (fails_tags_by old new p f (Printed out out') watch_reader told.watch h t.0 t.1))))
+    rig_unwatched p f ended.Memory h t = (refl, t)
+    rig_unwatched p f ended.Done h t = absurd t
+    rig_unwatched p f ended.Jobs h t = absurd t
+    rig_unwatched p f ended.Output h t = absurd t
+    rig_unwatched p f ended.Dial h t = absurd t
+
+    module _ (watched : Option (List Tag)) (watching : ReadsWatch told.watch old (λ found. found ≡ watched)) where
+      refuses_other : RefusesOther known told old (Printed out out')
+          → ReadsTags told.tags old (λ k. RefusesAfterTags k told old (Printed out out'))
+      refuses_other h =
+          refuses (inr (with_tags_by watch_reader told.watch old watched
+          (λ w. RefusesOther known told old (Printed out out')) watching h))
+
+      fails_other : FailsOther known told old new (Printed out out')
+          → ReadsTags told.tags old (λ k. FailsAfterTags k told old new (Printed out out'))
+      fails_other h =
+          fails (inr (with_tags_by watch_reader told.watch old watched
+          (λ w. FailsOther known told old new (Printed out out')) watching h))
+
+      -- the areas weren't loaded
+      pub rig_unopened : (f : AreasFault) (how : Ended) → Loads (naming told.areas) old new (Err f)
+          → TellsFault (areas_refusal_line f) (f ≡ areas.Failed) told.areas out out' how
+          → RigEnds told old new out out' None how
+      rig_unopened f ended.Refused h t =
+          (refl, inr (refuses_other (inl (refuses_areas (naming told.areas) f old new (Printed out out') h t))))
+      rig_unopened f ended.File h t =
+          let failed = word_failed told.areas old new (h.failed (ap (λ x. Err x) t.0)) in (
+            refl,
+            inr (fails_other (record {
+              path = told.areas;
+              named = inl failed.0;
+              fails = record { rose = failed.1; is_printed = t.1 };
+            })),
+          )
+      rig_unopened f ended.Memory h t = (refl, t)
+      rig_unopened f ended.Done h t = absurd t
+      rig_unopened f ended.Jobs h t = absurd t
+      rig_unopened f ended.Output h t = absurd t
+      rig_unopened f ended.Dial h t = absurd t
+
+      module _ (m : Memory) (opened : NamedGives (naming told.areas) old (Ok m)) where
+        comes_to : (p : List ℕ) (f : LoadFault) → StopsAt known told.scripts old new p f → ComesTo known told old p
+        comes_to p f h = record { opening = m; opened = opened; next = h.next }
+
+        -- a script wasn't loaded
+        pub rig_unread : (p : List ℕ) (f : LoadFault) (how : Ended) → StopsAt known told.scripts old new p f
+            → TellsFault (refusal_line script_line f) (f ≡ fault.Failed) p out out' how
+            → RigEnds told old new out out' None how
+        rig_unread p f ended.Refused h t = (
           refl,
-          inr (fails (record {
-            path = told.areas;
-            named = inl failed.0;
-            fails = record { rose = failed.1; is_printed = t.1 };
+          inr (refuses_other (inr (record {
+            path = p;
+            next = comes_to p f h;
+            refused = refuses_text (script_reader known) script_line p f old (Printed out out') h.unloaded.refused t;
+          }))),
+        )
+        rig_unread p f ended.File h t = (
+          refl,
+          inr (fails_other (record {
+            path = p;
+            named = inr (comes_to p f h);
+            fails = record { rose = h.unloaded.failed t.0; is_printed = t.1 };
           })),
         )
-    rig_unopened f ended.Memory h t = (refl, t)
-    rig_unopened f ended.Done h t = absurd t
-    rig_unopened f ended.Jobs h t = absurd t
-    rig_unopened f ended.Output h t = absurd t
-    rig_unopened f ended.Dial h t = absurd t
+        rig_unread p f ended.Memory h t = (refl, t)
+        rig_unread p f ended.Done h t = absurd t
+        rig_unread p f ended.Jobs h t = absurd t
+        rig_unread p f ended.Output h t = absurd t
+        rig_unread p f ended.Dial h t = absurd t
 
-    module _ (m : Memory) (opened : NamedGives (naming told.areas) old (Ok m)) where
-      comes_to : (p : List ℕ) (f : LoadFault) → StopsAt known told.scripts old new p f → ComesTo known told old p
-      comes_to p f h = record { opening = m; opened = opened; next = h.next }
+        -- a rig ran
+        module _ (scripts : List (List ScriptLine)) (read : ReadsScripts known told.scripts old scripts) (rig : RigEnd)
+            (ran : RanJobs told m (rig_scripts scripts watched told.rounds) (end_told rig)) where
+          abbrev PrintsRig : Ended → Type 0
+          PrintsRig how =
+              PrintsText (rig_text scripts watched told.rounds (end_told rig))
+              (are_clients_good scripts watched (end_told rig).clients) out out' how
 
-      -- a script wasn't loaded
-      pub rig_unread : (p : List ℕ) (f : LoadFault) (how : Ended) → StopsAt known told.scripts old new p f
-          → TellsFault (refusal_line script_line f) (f ≡ fault.Failed) p out out' how
-          → RigEnds told old new out out' None how
-      rig_unread p f ended.Refused h t = (
-        refl,
-        inr (refuses (inr (record {
-          path = p;
-          next = comes_to p f h;
-          refused = refuses_text (script_reader known) script_line p f old (Printed out out') h.unloaded.refused t;
-        }))),
-      )
-      rig_unread p f ended.File h t = (
-        refl,
-        inr (fails (record {
-          path = p;
-          named = inr (comes_to p f h);
-          fails = record { rose = h.unloaded.failed t.0; is_printed = t.1 };
-        })),
-      )
-      rig_unread p f ended.Memory h t = (refl, t)
-      rig_unread p f ended.Done h t = absurd t
-      rig_unread p f ended.Jobs h t = absurd t
-      rig_unread p f ended.Output h t = absurd t
-      rig_unread p f ended.Dial h t = absurd t
+          rig_ran : (how : Ended) → PrintsRig how → RanRig told old out out' (end_told rig) how
+          rig_ran how printed = record {
+            known = known;
+            tagged = tagged;
+            watched = watched;
+            watching = watching;
+            opening = m;
+            opened = opened;
+            scripts = scripts;
+            read = read;
+            ran = ran;
+            printed = printed;
+          }
 
-      -- a rig ran
-      module _ (scripts : List (List ScriptLine)) (read : ReadsScripts known told.scripts old scripts) (rig : RigEnd)
-          (ran : RanJobs told m (map client_script scripts) (end_told rig)) where
-        abbrev PrintsRig : Ended → Type 0
-        PrintsRig how =
-            PrintsText (rig_text scripts (end_told rig)) (are_clients_good scripts (end_told rig).clients) out out' how
-
-        rig_ran : (how : Ended) → PrintsRig how → RanRig told old out out' (end_told rig) how
-        rig_ran how printed = record {
-          known = known;
-          tagged = tagged;
-          opening = m;
-          opened = opened;
-          scripts = scripts;
-          read = read;
-          ran = ran;
-          printed = printed;
-        }
-
-        pub rigged : (how : Ended) → PrintsRig how → RigEnds told old new out out' (Some rig) how
-        rigged ended.Done printed = rig_ran ended.Done printed
-        rigged ended.Jobs printed = rig_ran ended.Jobs printed
-        rigged ended.Output printed = rig_ran ended.Output printed
-        rigged ended.Memory printed = absurd printed
-        rigged ended.Refused printed = absurd printed
-        rigged ended.File printed = absurd printed
-        rigged ended.Dial printed = absurd printed
+          pub rigged : (how : Ended) → PrintsRig how → RigEnds told old new out out' (Some rig) how
+          rigged ended.Done printed = rig_ran ended.Done printed
+          rigged ended.Jobs printed = rig_ran ended.Jobs printed
+          rigged ended.Output printed = rig_ran ended.Output printed
+          rigged ended.Memory printed = absurd printed
+          rigged ended.Refused printed = absurd printed
+          rigged ended.File printed = absurd printed
+          rigged ended.Dial printed = absurd printed
 
 -- the rig of a seed ran
 module _ (seed : ℕ) (out out' : OutShown) (rig : RigEnd) where

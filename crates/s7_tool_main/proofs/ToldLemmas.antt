@@ -20,9 +20,9 @@ use Rattle.s7_rig.proofs.TellsLemmas.{tells_none}
 use Rattle.s7_tool_main.specs.declared.ended.Ended.{Ended}
 use Rattle.s7_tool_main.specs.declared.ended.Ended.TheVariants as ended
 use Rattle.s7_tool_main.specs.End.{HeardWanting}
-use Rattle.s7_tool_main.specs.Loading.{ReadsTags}
+use Rattle.s7_tool_main.specs.Loading.{ReadsTags, ReadsWatch}
 use Rattle.s7_tool_main.specs.Report.{PrintsText}
-use Rattle.s7_tool_main.specs.Rigging.{JobsWanting, RigWanting, client_script}
+use Rattle.s7_tool_main.specs.Rigging.{JobsWanting, RigWanting, rig_scripts}
 use Rattle.s7_tool_main.specs.Scripts.{ReadsScripts}
 
 -- ---- a run
@@ -73,12 +73,15 @@ wanting_same r areas areas' limit config config' jobs jobs' turns turns' seed st
 
 -- a rig over the files that were read
 pub rig_wanting : (told : RigTold) (files : FilesShown) (known : Option (List Tag)) (opening : Memory)
-    (scripts : List (List ScriptLine)) (x y : Option Told) → ReadsTags told.tags files (λ found. found ≡ known)
+    (watched : Option (List Tag)) (scripts : List (List ScriptLine)) (x y : Option Told)
+    → ReadsTags told.tags files (λ found. found ≡ known) → ReadsWatch told.watch files (λ found. found ≡ watched)
     → NamedGives (naming told.areas) files (Ok opening) → ReadsScripts known told.scripts files scripts
-    → JobsWanting told opening (map client_script scripts) x y → RigWanting told files x y
-rig_wanting told files known opening scripts x y tagged opened read wanting = inr (record {
+    → JobsWanting told opening (rig_scripts scripts watched told.rounds) x y → RigWanting told files x y
+rig_wanting told files known opening watched scripts x y tagged watching opened read wanting = inr (record {
   known = known;
   tagged = tagged;
+  watched = watched;
+  watching = watching;
   opening = opening;
   opened = opened;
   scripts = scripts;

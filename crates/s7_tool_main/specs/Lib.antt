@@ -9,6 +9,7 @@ pub mod Partners
 pub mod Ran
 pub mod Report
 pub mod RigText
+pub mod Taking
 pub mod Rigging
 pub mod Run
 pub mod Scripts

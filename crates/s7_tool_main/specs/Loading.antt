@@ -1,5 +1,5 @@
--- How a tag file, a script or a sends file was loaded.
-use Rattle.std.specs.Prelude.{◌≡◌, ◌≢◌, ◌≤◌, ℕ, ◌+◌, List, length, Option, Some, None, Result, Ok, Err, IsTrue}
+-- How a tag file, a watch file, a script or a sends file was loaded.
+use Rattle.std.specs.Prelude.{◌≡◌, ◌≢◌, ◌≤◌, ℕ, ◌+◌, List, [], ◌∷◌, length, Option, Some, None, Result, Ok, Err, IsTrue}
 use Rattle.s7_outer.specs.declared.files.FileFault.{FileFault}
 use Rattle.s7_outer.specs.declared.files.FileFault.TheVariants as file
 use Rattle.s7_outer.specs.FilesShown.{FilesShown}
@@ -36,6 +36,16 @@ numbered line_of (Err e) = Err (line_of e)
 
 abbrev pub tag_reader : Reader Tag
 tag_reader text = numbered (λ (e : TagFault). e.line) (tags text)
+
+-- the tags, or line 1 if there is none
+abbrev pub some_tags : Result (List Tag) ℕ → Result (List Tag) ℕ
+some_tags (Ok []) = Err 1
+some_tags (Ok (tag ∷ tags)) = Ok (tag ∷ tags)
+some_tags (Err n) = Err n
+
+-- the reader of watch files, which are tag files: the first line of one without a tag is faulty
+abbrev pub watch_reader : Reader Tag
+watch_reader text = some_tags (tag_reader text)
 
 -- the reader of scripts whose lines may name these tags
 abbrev pub script_reader : Option (List Tag) → Reader ScriptLine
@@ -131,23 +141,47 @@ pub record PathFails (path : List ℕ) (old new : FilesShown) (printed : List �
 
 -- ---- tag files, scripts and sends files
 
+-- the tags of the file were read by this reader, none if no file is named
+abbrev pub ReadsTagsBy : Reader Tag → Option (List ℕ) → FilesShown → (Option (List Tag) → Type 0) → Type 0
+ReadsTagsBy reader None files so = so None
+ReadsTagsBy reader (Some path) files so = ReadsText reader path files (λ found. so (Some found))
+
 -- THE TAGS that lines of scripts may name were read: those of the tag file, or none if no tag file is named
 abbrev pub ReadsTags : Option (List ℕ) → FilesShown → (Option (List Tag) → Type 0) → Type 0
-ReadsTags None files so = so None
-ReadsTags (Some path) files so = ReadsText tag_reader path files (λ found. so (Some found))
+ReadsTags named files so = ReadsTagsBy tag_reader named files so
+
+-- THE TAGS that are watched were read: those of the watch file, or none if no watch file is named
+abbrev pub ReadsWatch : Option (List ℕ) → FilesShown → (Option (List Tag) → Type 0) → Type 0
+ReadsWatch named files so = ReadsTagsBy watch_reader named files so
+
+-- the file was refused by this reader, if one is named
+abbrev pub RefusesTagsBy : Reader Tag → Option (List ℕ) → FilesShown → (List ℕ → Type 0) → Type 0
+RefusesTagsBy reader None files printed = ⊥
+RefusesTagsBy reader (Some path) files printed = RefusesText reader tags_line path files printed
 
 -- the tag file was refused, if one is named
 abbrev pub RefusesTags : Option (List ℕ) → FilesShown → (List ℕ → Type 0) → Type 0
-RefusesTags None files printed = ⊥
-RefusesTags (Some path) files printed = RefusesText tag_reader tags_line path files printed
+RefusesTags named files printed = RefusesTagsBy tag_reader named files printed
+
+-- the watch file was refused, if one is named
+abbrev pub RefusesWatch : Option (List ℕ) → FilesShown → (List ℕ → Type 0) → Type 0
+RefusesWatch named files printed = RefusesTagsBy watch_reader named files printed
+
+-- the named file of tags wasn't loaded, for this reason
+pub record StopsAtTagsBy (reader : Reader Tag) (named : Option (List ℕ)) (old new : FilesShown) (path : List ℕ)
+    (why : LoadFault) : Type 0 where
+  pub is : named ≡ Some path
+  pub unloaded : IsUnloaded reader path old new why
 
 -- the named tag file wasn't loaded, for this reason
-pub record StopsAtTags (named : Option (List ℕ)) (old new : FilesShown) (path : List ℕ) (why : LoadFault)
-    : Type 0 where
-  pub is : named ≡ Some path
-  pub unloaded : IsUnloaded tag_reader path old new why
+abbrev pub StopsAtTags : Option (List ℕ) → FilesShown → FilesShown → List ℕ → LoadFault → Type 0
+StopsAtTags named old new path why = StopsAtTagsBy tag_reader named old new path why
 
--- the tag file failed, if one is named
+-- the named watch file wasn't loaded, for this reason
+abbrev pub StopsAtWatch : Option (List ℕ) → FilesShown → FilesShown → List ℕ → LoadFault → Type 0
+StopsAtWatch named old new path why = StopsAtTagsBy watch_reader named old new path why
+
+-- the tag file or the watch file failed, if one is named
 abbrev pub FailsTags : Option (List ℕ) → FilesShown → FilesShown → (List ℕ → Type 0) → Type 0
 FailsTags None old new printed = ⊥
 FailsTags (Some path) old new printed = PathFails path old new printed

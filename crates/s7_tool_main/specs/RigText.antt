@@ -1,12 +1,18 @@
 -- The text that is printed of a rig.
-use Rattle.std.specs.Prelude.{ℕ, All, ◌+◌, ◌==◌, ◌&&◌, Bool, List, [], ◌∷◌, ◌++◌}
-use Rattle.std.specs.Prelude.{length, map, codes, if◌then◌else◌}
+use Rattle.std.specs.Prelude.{◌≡◌, ℕ, All, ◌+◌, ◌-◌, ◌==◌, ◌&&◌, Bool, true, false, List, [], ◌∷◌, ◌++◌}
+use Rattle.std.specs.Prelude.{length, drop, map, slice_get, codes, Option, None, Some, if◌then◌else◌}
 use Rattle.std.specs.Fmt.{decimal}
 use Rattle.std.specs.List.{list_all, zip}
+use Rattle.s7_dialogue.specs.declared.job.Job.{Job}
+use Rattle.s7_dialogue.specs.declared.job.Job.TheVariants as job
 use Rattle.s7_dialogue.specs.declared.job.JobResult.{JobResult}
 use Rattle.s7_rig.specs.Shown.{ClientTold, EndTold}
 use Rattle.s7_script.specs.Printing.{IsPrintable}
 use Rattle.s7_script.specs.declared.scripts.script_list.ScriptLine.{ScriptLine}
+use Rattle.s7_symbol.specs.declared.tag.Tag.{Tag}
+use Rattle.s7_watch.specs.Lines.{nothing_seen, result_lines}
+use Rattle.s7_watch.specs.Looks.{looks}
+use Rattle.s7_args.specs.Tool.{client_count}
 use Rattle.s7_tool_main.specs.declared.head.Head.{Head}
 use Rattle.s7_tool_main.specs.Report.{line_by, line_end}
 use Rattle.s7_tool_main.specs.Run.{connect_line, is_good}
@@ -52,16 +58,46 @@ clients_text [] clients = []
 clients_text (heads ∷ scripts) [] = []
 clients_text (heads ∷ scripts) (c ∷ clients) = client_text heads c ++ clients_text scripts clients
 
+-- the last result is that of a disconnect
+abbrev pub is_disconnect : Job → Bool
+is_disconnect job.Disconnect = true
+is_disconnect _ = false
+
+abbrev pub is_last : Option JobResult → Bool
+is_last None = false
+is_last (Some told) = is_disconnect told.job
+
+abbrev pub has_left : List JobResult → Bool
+has_left results = is_last (slice_get results (length results - 1))
+
+-- the lines of the watcher's reads, which follow its connect, and a line if it didn't come to its disconnect
+abbrev pub lines_of : List Tag → ℕ → Option ClientTold → List ℕ
+lines_of tags rounds None = []
+lines_of tags rounds (Some c) =
+    result_lines (nothing_seen tags) (looks tags rounds) (drop 1 c.results)
+    ++ (if has_left c.results then [] else unfinished_line c.link)
+
+-- THE TEXT of the watcher of these tags; it is empty if no tags are watched
+abbrev pub watch_text : Option (List Tag) → ℕ → Option ClientTold → List ℕ
+watch_text None rounds watcher = []
+watch_text (Some tags) rounds watcher = lines_of tags rounds watcher
+
 abbrev pub journal_line : ℕ → List ℕ
 journal_line count = codes "journal " ++ (decimal count ++ line_end)
 
-abbrev pub text_by : List (List Head) → EndTold → List ℕ
-text_by heads end = clients_text heads end.clients ++ journal_line (length end.book.journal.entries)
+abbrev pub text_by : List (List Head) → List ℕ → EndTold → List ℕ
+text_by heads watched end =
+    clients_text heads end.clients ++ (watched ++ journal_line (length end.book.journal.entries))
 
--- THE TEXT of a rig: for each client, in order, the results of its lines, and a line if it isn't finished; then the
--- journal's length
-abbrev pub rig_text : List (List ScriptLine) → EndTold → List ℕ
-rig_text scripts end = text_by (map heads_of scripts) end
+-- the watcher is the client after those of the scripts
+abbrev pub watcher_of : List (List ScriptLine) → List ClientTold → Option ClientTold
+watcher_of scripts clients = slice_get clients (length scripts)
+
+-- THE TEXT of a rig: for each client, in order, the results of its lines, and a line if it isn't finished; then that of
+-- the watcher of these tags, and the journal's length
+abbrev pub rig_text : List (List ScriptLine) → Option (List Tag) → ℕ → EndTold → List ℕ
+rig_text scripts watched rounds end =
+    text_by (map heads_of scripts) (watch_text watched rounds (watcher_of scripts end.clients)) end
 
 -- ---- whether all went well
 
@@ -69,10 +105,22 @@ rig_text scripts end = text_by (map heads_of scripts) end
 abbrev pub is_client_good : List Head → ClientTold → Bool
 is_client_good heads c = is_finished heads c && list_all is_good c.results
 
-abbrev pub are_good_by : List (List Head) → List ClientTold → Bool
-are_good_by heads clients =
-    length clients == length heads && list_all (λ p. is_client_good p.0 p.1) (zip heads clients)
+-- there are this many clients, and the first ones, which have lines with these heads, are good
+abbrev pub are_good_by : List (List Head) → ℕ → List ClientTold → Bool
+are_good_by heads count clients =
+    length clients == count && list_all (λ p. is_client_good p.0 p.1) (zip heads clients)
 
--- each script has its client, and each of them is good
-abbrev pub are_clients_good : List (List ScriptLine) → List ClientTold → Bool
-are_clients_good scripts clients = are_good_by (map heads_of scripts) clients
+-- the watcher came to its disconnect, and each of its results has code 0
+abbrev pub is_watcher_good : Option ClientTold → Bool
+is_watcher_good None = false
+is_watcher_good (Some c) = has_left c.results && list_all is_good c.results
+
+abbrev pub is_watch_good : Option (List Tag) → Option ClientTold → Bool
+is_watch_good None watcher = true
+is_watch_good (Some tags) watcher = is_watcher_good watcher
+
+-- each script has its client, and each of them is good; and so is the watcher, if tags are watched
+abbrev pub are_clients_good : List (List ScriptLine) → Option (List Tag) → List ClientTold → Bool
+are_clients_good scripts watched clients =
+    are_good_by (map heads_of scripts) (client_count (length scripts) watched) clients
+    && is_watch_good watched (watcher_of scripts clients)

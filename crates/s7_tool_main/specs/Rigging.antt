@@ -1,5 +1,5 @@
 -- What the command `rig` does.
-use Rattle.std.specs.Prelude.{◌≡◌, ◌⊎◌, ℕ, List, map, Option, Some, None, IsNone, IsSomeAnd, Ok, Err}
+use Rattle.std.specs.Prelude.{◌≡◌, ◌⊎◌, ℕ, List, [], ◌∷◌, ◌++◌, map, Option, Some, None, IsNone, IsSomeAnd, Ok, Err}
 use Rattle.s7_outer.specs.FilesShown.{FilesShown}
 use Rattle.s7_outer.specs.OutShown.{OutShown}
 use Rattle.s7_area.specs.Memory.{Memory}
@@ -14,11 +14,12 @@ use Rattle.s7_script.specs.declared.areas.load.LoadFault.{LoadFault}
 use Rattle.s7_script.specs.declared.areas.load.LoadFault.TheVariants as fault
 use Rattle.s7_script.specs.declared.scripts.script_list.ScriptLine.{ScriptLine}
 use Rattle.s7_symbol.specs.declared.tag.Tag.{Tag}
+use Rattle.s7_watched.specs.Watched.{watch_script}
 use Rattle.s7_args.specs.Tool.{RigTold}
 use Rattle.s7_tool_main.specs.declared.ended.Ended.{Ended}
 use Rattle.s7_tool_main.specs.declared.ended.Ended.TheVariants as ended
 use Rattle.s7_tool_main.specs.Asked.{rig_config, turning_of}
-use Rattle.s7_tool_main.specs.Loading.{FailsTags, PathFails, ReadsTags, RefusesScript, RefusesTags}
+use Rattle.s7_tool_main.specs.Loading.{FailsTags, PathFails, ReadsTags, ReadsWatch, RefusesScript, RefusesTags, RefusesWatch}
 use Rattle.s7_tool_main.specs.Report.{Printed, PrintsText, areas_line, memory_line, too_long_line}
 use Rattle.s7_tool_main.specs.RigText.{are_clients_good, rig_text}
 use Rattle.s7_tool_main.specs.Run.{jobs_of}
@@ -53,13 +54,22 @@ pub record RefusesOneScript (known : Option (List Tag)) (told : RigTold) (files 
   pub next : ComesTo known told files path
   pub refused : RefusesScript known path files printed
 
--- A FILE WAS REFUSED: the first that can't be read, in the order of the tag file, the areas and the scripts as the
--- words name them
+-- the areas were refused, or the next script
+abbrev pub RefusesOther : Option (List Tag) → RigTold → FilesShown → (List ℕ → Type 0) → Type 0
+RefusesOther known told files printed =
+    RefusesAreas (naming told.areas) files printed ⊎ RefusesOneScript known told files printed
+
+-- the watch file was refused if one is named, or after it the areas or the next script
+abbrev pub RefusesAfterTags : Option (List Tag) → RigTold → FilesShown → (List ℕ → Type 0) → Type 0
+RefusesAfterTags known told files printed =
+    RefusesWatch told.watch files printed ⊎ ReadsWatch told.watch files (λ watched. RefusesOther known told files printed)
+
+-- A FILE WAS REFUSED: the first that can't be read, in the order of the tag file, the watch file, the areas and the
+-- scripts as the words name them
 abbrev pub RefusesFile : RigTold → FilesShown → (List ℕ → Type 0) → Type 0
 RefusesFile told files printed =
     RefusesTags told.tags files printed
-    ⊎ ReadsTags told.tags files
-    (λ known. RefusesAreas (naming told.areas) files printed ⊎ RefusesOneScript known told files printed)
+    ⊎ ReadsTags told.tags files (λ known. RefusesAfterTags known told files printed)
 
 abbrev pub IsPathOf : Named → List ℕ → Type 0
 IsPathOf (path p) q = q ≡ p
@@ -73,16 +83,32 @@ pub record FailsOther (known : Option (List Tag)) (told : RigTold) (old new : Fi
   pub named : IsPathOf (naming told.areas) path ⊎ ComesTo known told old path
   pub fails : PathFails path old new printed
 
--- A FILE FAILED: the tag file if one is named, or after it the file of the areas or the next script
+-- the watch file failed if one is named, or after it the file of the areas or the next script
+abbrev pub FailsAfterTags : Option (List Tag) → RigTold → FilesShown → FilesShown → (List ℕ → Type 0) → Type 0
+FailsAfterTags known told old new printed =
+    FailsTags told.watch old new printed
+    ⊎ ReadsWatch told.watch old (λ watched. FailsOther known told old new printed)
+
+-- A FILE FAILED: the tag file if one is named, or after it the watch file if one is named, the file of the areas or the
+-- next script
 abbrev pub FailsOneFile : RigTold → FilesShown → FilesShown → (List ℕ → Type 0) → Type 0
 FailsOneFile told old new printed =
-    FailsTags told.tags old new printed ⊎ ReadsTags told.tags old (λ known. FailsOther known told old new printed)
+    FailsTags told.tags old new printed ⊎ ReadsTags told.tags old (λ known. FailsAfterTags known told old new printed)
 
 -- ---- the rig
 
 -- the client of a script does all its jobs, whether one fails or not
 abbrev pub client_script : List ScriptLine → Script
 client_script lines = goes_on (jobs_of lines)
+
+-- the script of the watcher, if tags are watched
+abbrev pub watchers : Option (List Tag) → ℕ → List Script
+watchers None rounds = []
+watchers (Some tags) rounds = watch_script tags rounds ∷ []
+
+-- a client for each script, and then the watcher, if tags are watched
+abbrev pub rig_scripts : List (List ScriptLine) → Option (List Tag) → ℕ → List Script
+rig_scripts scripts watched rounds = map client_script scripts ++ watchers watched rounds
 
 -- a rig ran over these areas, with a client for each of these scripts, as the words ask
 abbrev pub RanJobs : RigTold → Memory → List Script → EndTold → Type 0
@@ -94,18 +120,21 @@ abbrev pub JobsWanting : RigTold → Memory → List Script → Option Told → 
 JobsWanting told opening scripts before after =
     ToldWanting opening told.journal (rig_config told.pdu told.jobs) scripts (turning_of told) before after
 
--- A RIG RAN over the areas and the scripts that the words name, with the tags of the named file; all of them are those
--- of the files if the files show their octets; and its text was printed
+-- A RIG RAN over the areas and the scripts that the words name, with the tags of the named file, and with a watcher if a
+-- watch file is named; all of them are those of the files if the files show their octets; and its text was printed
 pub record RanRig (told : RigTold) (files : FilesShown) (out out' : OutShown) (end : EndTold)
     (how : Ended) : Type 0 where
   pub known : Option (List Tag)
   pub tagged : ReadsTags told.tags files (λ found. found ≡ known)
+  pub watched : Option (List Tag)
+  pub watching : ReadsWatch told.watch files (λ found. found ≡ watched)
   pub opening : Memory
   pub opened : NamedGives (naming told.areas) files (Ok opening)
   pub scripts : List (List ScriptLine)
   pub read : ReadsScripts known told.scripts files scripts
-  pub ran : RanJobs told opening (map client_script scripts) end
-  pub printed : PrintsText (rig_text scripts end) (are_clients_good scripts end.clients) out out' how
+  pub ran : RanJobs told opening (rig_scripts scripts watched told.rounds) end
+  pub printed : PrintsText (rig_text scripts watched told.rounds end) (are_clients_good scripts watched end.clients)
+      out out' how
 
 -- HOW `rig` ENDED, by the files and the output before and after, and the rig if one ran
 abbrev pub RigEnds : RigTold → FilesShown → FilesShown → OutShown → OutShown → Option RigEnd → Ended → Type 0
@@ -126,11 +155,13 @@ RigEnds told files files' out out' rig ended.Dial = ⊥
 pub record BreaksOffRig (told : RigTold) (files : FilesShown) (before after : Option Told) : Type 0 where
   pub known : Option (List Tag)
   pub tagged : ReadsTags told.tags files (λ found. found ≡ known)
+  pub watched : Option (List Tag)
+  pub watching : ReadsWatch told.watch files (λ found. found ≡ watched)
   pub opening : Memory
   pub opened : NamedGives (naming told.areas) files (Ok opening)
   pub scripts : List (List ScriptLine)
   pub read : ReadsScripts known told.scripts files scripts
-  pub wanting : JobsWanting told opening (map client_script scripts) before after
+  pub wanting : JobsWanting told opening (rig_scripts scripts watched told.rounds) before after
 
 -- IF MEMORY RAN OUT, the completion was notified of nothing, or of what `BreaksOffRig` says for a rig that was begun.
 abbrev pub RigWanting : RigTold → FilesShown → Option Told → Option Told → Type 0

@@ -1,10 +1,12 @@
-//! Loading tag files, scripts and sends files.
-ghost use Rattle.std.specs.Prelude.{◌≡◌, ◌+◌, All, IfErr, IfOk, OnOk, length, map, option_map, vec_len};
+//! Loading tag files, watch files, scripts and sends files.
+ghost use Rattle.std.specs.Prelude.{◌≡◌, ◌+◌, ◌<◌, All, IfErr, IfOk, OnOk, is_some, length, map, option_map, vec_len};
+ghost use Rattle.std.specs.Option.{ForSome};
 ghost use Rattle.s7_script.specs.Script.{GivesScript};
 ghost use Rattle.s7_script.specs.Sends.{IsSized};
 ghost use Rattle.s7_script.specs.Tagged.{script_by};
 ghost use Rattle.s7_tool_main.specs.Loading.{AnswersText, IsUnloaded, KeepsPaths, ReadsScript, ReadsSends, ReadsTags};
-ghost use Rattle.s7_tool_main.specs.Loading.{ReadsText, StopsAtTags, fault_of, script_reader, sends_reader, tag_reader};
+ghost use Rattle.s7_tool_main.specs.Loading.{ReadsText, ReadsWatch, StopsAtTags, StopsAtWatch, fault_of, script_reader};
+ghost use Rattle.s7_tool_main.specs.Loading.{sends_reader, tag_reader, watch_reader};
 ghost use Rattle.s7_tool_main.specs.Scripts.{AddsScript, ReadsScripts, StopsAt};
 
 use s7_outer::{FileFault, Files};
@@ -15,7 +17,7 @@ use std::alloc::Global;
 /// The kind of a text.
 #[derive(Clone, Copy, Debug, PartialEq, Eq)]
 pub(crate) enum TextKind {
-    /// A tag file.
+    /// A tag file or a watch file.
     Tags,
     /// A script or a sends file.
     Script,
@@ -76,6 +78,49 @@ fn load_tag_file<F: Files>(alloc: Global, files: &mut F, path: &str) -> Result<T
         Ok(()) => tags_of(alloc, octets.as_slice()),
         Err(fault) => Err(fault_of(fault)),
     }
+}
+
+/// The tags of the watch file under this path, at least one; `None` if no path is given. No file is changed.
+pub(crate) fn load_watch<'a, F: Files>(
+    alloc: Global,
+    files: &mut F,
+    path: Option<&'a str>,
+) -> Result<Option<Tags>, Refused<'a>>
+    ensures ok { IfOk result (λ watched.
+        ReadsWatch (option_map (λ p. p.now) path.entry) (F.shows files.old) (λ found. found ≡ watched)) }
+    ensures given { IfOk result (λ watched. is_some watched ≡ is_some path.entry) }
+    ensures some { IfOk result (λ watched. ForSome watched (λ tags. 0 < length tags)) }
+    ensures err { IfErr result (λ refused. StopsAtWatch (option_map (λ p. p.now) path.entry)
+        (F.shows files.old) (F.shows files.new) refused.path.now refused.fault) }
+    ensures unchanged { OnOk result (F.shows files.new ≡ F.shows files.old) }
+    ensures paths { KeepsPaths (F.shows files.old) (F.shows files.new) }
+{
+    let Some(path) = path else {
+        return Ok(None);
+    };
+    match load_watch_file(alloc, files, path) {
+        Ok(tags) => Ok(Some(tags)),
+        Err(fault) => Err(Refused { path, fault }),
+    }
+}
+
+/// The tags of the watch file under this path, at least one.
+fn load_watch_file<F: Files>(alloc: Global, files: &mut F, path: &str) -> Result<Tags, LoadFault>
+    ensures ok { IfOk result (λ tags. ReadsText watch_reader path.now (F.shows files.old) (λ read. read ≡ tags)) }
+    ensures some { IfOk result (λ tags. 0 < length tags) }
+    ensures err { IfErr result (λ fault.
+        IsUnloaded watch_reader path.now (F.shows files.old) (F.shows files.new) fault) }
+    ensures unchanged { OnOk result (F.shows files.new ≡ F.shows files.old) }
+    ensures paths { KeepsPaths (F.shows files.old) (F.shows files.new) }
+{
+    let tags = match load_tag_file(alloc, files, path) {
+        Ok(tags) => tags,
+        Err(fault) => return Err(fault),
+    };
+    if tags.as_slice().is_empty() {
+        return Err(LoadFault::Line(1));
+    }
+    Ok(tags)
 }
 
 /// The scripts under these paths, whose lines may name these tags. Stops at the first that isn't loaded. No file is

@@ -2,3 +2,4 @@
 
 pub(crate) mod rig_report;
 pub(crate) mod rigging;
+pub(crate) mod watcher;

@@ -15,13 +15,21 @@ use s7_outer::Memory;
 use s7_rig::{RigClient, RigEnd};
 use std::alloc::{AllocError, Global};
 
-/// The text of a rig whose clients have lines with these heads. Returns `Memory` if an allocation fails.
-pub fn rig_text(alloc: Global, heads: &[Vec<Head>], end: &RigEnd) -> Result<Vec<u8>, Memory>
+/// The text of a rig whose clients have lines with these heads, and whose watcher has this text. Returns `Memory` if an
+/// allocation fails.
+pub fn rig_text(
+    alloc: Global,
+    heads: &[Vec<Head>],
+    watched: &[u8],
+    end: &RigEnd,
+) -> Result<Vec<u8>, Memory>
     requires { All ArePrintable (end_told end.now).clients }
-    ensures { IfOk result (λ text. text.items ≡ text_by (map (λ v. v.items) heads.now) (end_told end.now)) }
+    ensures { IfOk result (λ text. text.items
+        ≡ text_by (map (λ v. v.items) heads.now) watched.now (end_told end.now)) }
 {
     let mut text = Vec::new(alloc);
     add_clients(alloc, &mut text, heads, end.clients.as_slice())?;
+    text.extend_from_slice(watched)?;
     let journal = journal_line(alloc, end.book.journal.len())?;
     text.extend_from_slice(journal.as_bytes())?;
     Ok(text)
@@ -106,7 +114,7 @@ fn client_head(alloc: Global, link: u32) -> Result<String, AllocError>
 }
 
 /// The line of a client that isn't finished.
-fn unfinished_line(alloc: Global, link: u32) -> Result<String, AllocError>
+pub(crate) fn unfinished_line(alloc: Global, link: u32) -> Result<String, AllocError>
     ensures { IfOk result (λ text. string_bytes text ≡ unfinished_line link) }
 {
     format!(in alloc; "client {link} unfinished\n")
@@ -119,11 +127,12 @@ pub(crate) fn journal_line(alloc: Global, entries: u64) -> Result<String, AllocE
     format!(in alloc; "journal {entries}\n")
 }
 
-/// Whether each of these clients is finished, with code 0 in all results. Their lines have these heads.
-pub fn are_good(heads: &[Vec<Head>], clients: &[RigClient]) -> bool
-    ensures { result ≡ are_good_by (map (λ v. v.items) heads.now) (map client_told clients.now) }
+/// Whether there are this many clients, and each of the first ones, whose lines have these heads, is finished, with code 0
+/// in all results.
+pub fn are_good(heads: &[Vec<Head>], count: usize, clients: &[RigClient]) -> bool
+    ensures { result ≡ are_good_by (map (λ v. v.items) heads.now) count (map client_told clients.now) }
 {
-    clients.len() == heads.len()
+    clients.len() == count
         && heads
             .iter()
             .zip(clients)

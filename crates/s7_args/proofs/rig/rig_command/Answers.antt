@@ -13,4 +13,6 @@ returns c =
     let six = c.in_ok-arg-6.ensures.shape c.number-3.ensures.local ∙ ap₂ with_rule five c.number-3.ensures.rule in
     let seven = c.in_ok-arg-7.ensures.shape c.number-4.ensures.local ∙ ap₂ with_rule six c.number-4.ensures.rule in
     let eight = c.in_ok-arg-8.ensures.shape c.number-5.ensures.local ∙ ap₂ with_rule seven c.number-5.ensures.rule in
-    IfOk-weaker c.arg-9.result _ _ (λ r added. added.shape c.text-2.ensures.local ∙ ap₂ with_rule eight c.text-2.ensures.rule) c.arg-9.ensures
+    let nine = c.in_ok-arg-9.ensures.shape c.text-2.ensures.local ∙ ap₂ with_rule eight c.text-2.ensures.rule in
+    let ten = c.in_ok-arg-10.ensures.shape c.text-3.ensures.local ∙ ap₂ with_rule nine c.text-3.ensures.rule in
+    IfOk-weaker c.arg-11.result _ _ (λ r added. added.shape c.number-6.ensures.local ∙ ap₂ with_rule ten c.number-6.ensures.rule) c.arg-11.ensures

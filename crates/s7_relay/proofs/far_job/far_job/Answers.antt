@@ -38,7 +38,7 @@ pub far_octets-requires-clause-places : goal.far_octets-requires-clause-places
 far_octets-requires-clause-places c =
     let items = c.in-Write.items in
     let ready : IsReady (Write items c.in-Write.places c.in-Write.octets) = subst IsReady c.in-Write.is c.requires.ready in
-    ap length c.as_slice-in-Write-2.ensures.places
+    ap length (c.as_slice-in-Write-2.ensures.places ∙ c.list.ensures)
     ∙ ready.0
     ∙ sym (length-put c.args.windows.now items c.in-Write.places c.in-Write.octets ready.0)
     ∙ ap length (sym (c.requires.codes ∙ ap (request_codes c.args.windows.now) c.in-Write.is))

@@ -12,8 +12,8 @@ use Rattle.s7_tool_main.specs.RigText.{is_client_good}
 use Rattle.s7_tool_main.proofs.TextLemmas.{all_mapped}
 use Rattle.s7_tool_main.proofs.rigs.rig_report.are_good.Goals as goal
 
-pub returns-then-clients-heads : goal.returns-then-clients-heads
-returns-then-clients-heads c =
+pub returns-then-clients-count : goal.returns-then-clients-count
+returns-then-clients-count c =
     let items : Vec Head Global → List Head = λ v. v.items in
     let good : List Head × ClientTold → Bool = λ p. is_client_good p.0 p.1 in
     let first : iter_rest (zip_first c.zip.result) ≡ c.args.heads.now = search rules in
@@ -21,8 +21,8 @@ returns-then-clients-heads c =
     let all = all_from_yields_List (λ (p : Vec Head Global × RigClient). good (items p.0, client_told p.1)) c.all.new.self _ c.all.result c.all.ensures.ran
     (YieldsList-from_zip (YieldsList-from_slice c.args.heads.now first) (YieldsList-from_slice c.args.clients.now second))
     (λ x b q k. search rules) in
-    let same = c.if-clients-heads.true in
-    let lengths : (length (map client_told c.args.clients.now) == length (map items c.args.heads.now)) ≡ true =
-    rw (length-map c.args.clients.now client_told, length-map c.args.heads.now items) (eq-eqb _ _ same) in
+    let same = c.if-clients-count.true in
+    let lengths : (length (map client_told c.args.clients.now) == c.args.count) ≡ true =
+    rw (length-map c.args.clients.now client_told) (eq-eqb _ _ same) in
     all ∙ all_mapped good items client_told c.args.heads.now c.args.clients.now
     ∙ sym (ap (λ b. b && list_all good (zip (map items c.args.heads.now) (map client_told c.args.clients.now))) lengths)
