@@ -1,5 +1,5 @@
 -- A link that was served over windows on another server.
-use Rattle.std.specs.Prelude.{◌≡◌, ◌⊎◌, ℕ, ◌-◌, ◌≤◌, List, [], length, map, None, option_map, IfSome}
+use Rattle.std.specs.Prelude.{◌≡◌, ◌⊎◌, ℕ, ◌-◌, ◌≤◌, Bool, if◌then◌else◌, List, [], ◌∷◌, ◌++◌, length, map, None, option_map, IfSome}
 use Rattle.std.specs.Io.KnownBytes.{prepend_known, append_known}
 use Rattle.s7_outer.specs.Calls.{shut_down}
 use Rattle.s7_outer.specs.Count.{RoseExactly}
@@ -15,6 +15,7 @@ use Rattle.s7_session.specs.Owed.{telegrams}
 use Rattle.s7_session.specs.Stands.{FailsBy}
 use Rattle.s7_session.specs.Telegrams.{AllAt, AnyFull, FullStays, MemoryIsLast, Met, NoneTimed}
 use Rattle.s7_session.specs.Telegrams.{clock_failures, entered_of, looks_in, verdicts_of}
+use Rattle.s7_relay.specs.Acts.{Act, Lead, lacks, relays}
 use Rattle.s7_relay.specs.Doer.{DoerModel, GoesOn, begins, entries_of}
 use Rattle.s7_relay.specs.declared.passage.Relayed.{Relayed}
 use Rattle.s7_relay.specs.declared.windows.Window.{Window}
@@ -75,6 +76,24 @@ pub record IsLeftAlone (pipe line : Shown) (result : Outcome) (kept : List Relay
   pub result_is : result ≡ outcome.Memory
   pub none : kept ≡ []
 
+-- ---- the far side
+
+-- the acts of calls that relayed these telegrams, one in each call, and of a last call for which an allocation failed,
+-- if there was one
+abbrev pub acts_of : List Relayed → Bool → List Act
+acts_of kept lacking = map relays kept ++ (if lacking then lacks ∷ [] else [])
+
+-- A DOER WENT ON by calls for the link's telegrams alone. Each relayed one telegram, which is kept, or changed nothing,
+-- but for a last one for which an allocation failed.
+pub record RelaysOn {M : Type 0} (shows : M → Shown) (old new : DoerModel M) : Type 0 where
+  pub windows : new.windows ≡ old.windows
+  pub server : new.server ≡ old.server
+  pub limit : new.limit ≡ old.limit
+  pub more : List Relayed
+  pub lacking : Bool
+  pub kept : new.kept ≡ old.kept ++ more
+  pub lead : Lead shows old.server old.windows old.far (acts_of more lacking) new.far
+
 -- ---- both sides
 
 -- THE LINK WAS SERVED OVER THE WINDOWS THAT ARE NAMED. The windows are those of the file, if the files show its octets.
@@ -87,4 +106,5 @@ pub record Relays {M : Type 0} (shows : M → Shown) (told : RelayTold) (files :
   pub windows : List Window
   pub read : ReadsWindows told.windows files windows
   pub goes_on : GoesOn shows (begins windows told.host told.port (relay_config told.polls) told.journal dial) doer
+  pub relays_on : RelaysOn shows (begins windows told.host told.port (relay_config told.polls) told.journal dial) doer
   pub came : IsRelayedLink told.journal pipe line result doer.kept ⊎ IsLeftAlone pipe line result doer.kept

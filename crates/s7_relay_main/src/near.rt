@@ -1,7 +1,7 @@
 //! Serving the near link.
 ghost use Rattle.std.specs.Prelude.{◌≡◌, ◌⊎◌, []};
 ghost use Rattle.s7_relay.specs.Doer.{GoesOn, doer_model};
-ghost use Rattle.s7_relay_main.specs.Relay.{IsLeftAlone, IsRelayedLink};
+ghost use Rattle.s7_relay_main.specs.Relay.{IsLeftAlone, IsRelayedLink, RelaysOn};
 
 use crate::output::LINK;
 use s7_outer::{Clock, Dial, Link};
@@ -23,6 +23,7 @@ pub(crate) fn serve_near<
         (doer_model K.shows M.shows doer.new).kept
         ⊎ IsLeftAlone (L.shows line.old) (L.shows line.new) result (doer_model K.shows M.shows doer.new).kept }
     ensures goes_on { GoesOn M.shows (doer_model K.shows M.shows doer.old) (doer_model K.shows M.shows doer.new) }
+    ensures relays_on { RelaysOn M.shows (doer_model K.shows M.shows doer.old) (doer_model K.shows M.shows doer.new) }
 {
     let Ok(mut session) = Session::new(alloc, LINK, None) else {
         line.shutdown();
