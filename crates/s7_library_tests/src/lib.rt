@@ -45,6 +45,8 @@ mod together;
 #[cfg(test)]
 mod tool_words;
 #[cfg(test)]
+mod watchers;
+#[cfg(test)]
 mod watches;
 #[cfg(test)]
 mod words;

@@ -1,0 +1,288 @@
+//! A rig with a watcher of 2,048 tags beside two clients that write. The text that the tool prints is compared with what
+//! the entries of the journal left in the area.
+use s7_client::Counter;
+use s7_item::Item;
+use s7_memory::{MemoryDial, MemoryFiles, MemoryLink, MemoryOut};
+use s7_outer::Octets;
+use s7_plant::{Entry, Request};
+use s7_rig::RigEnd;
+use s7_tool_main::{ToolEnd, tool_main};
+use std::alloc::Global;
+use std::test::Fail;
+
+/// The number of tags. Tag `k` is the number in the two octets of data block 1 from octet `2 * k` on.
+const TAGS: u32 = 2_048;
+
+/// The number of tags of one read.
+const AT_ONCE: u32 = 20;
+
+/// The number of rounds.
+const ROUNDS: u32 = 100;
+
+/// The number of writes of each of the two clients.
+const WRITES: u32 = 5_000;
+
+/// The link of the watcher; those of the other two clients are 1 and 2.
+const WATCHER: u32 = 3;
+
+/// The tag that the write of this number of a client changes, and the new value.
+fn written(client: u32, number: u32) -> (u32, u16) {
+    let tag = number
+        .wrapping_mul(613)
+        .wrapping_add(client.wrapping_mul(977))
+        % TAGS;
+    let value = number.wrapping_mul(7).wrapping_add(client) % 0x1_0000;
+    (tag, value as u16)
+}
+
+/// The word for the areas: data block 1 with two octets 00 for each tag.
+fn areas_word(alloc: Global) -> Option<String> {
+    let mut word = String::from_str(alloc, "DB1=").ok()?;
+    for _ in 0..TAGS {
+        word.push_str("0000").ok()?;
+    }
+    Some(word)
+}
+
+/// The text of the tag file.
+fn tags_text(alloc: Global) -> Option<String> {
+    let mut text = String::from_str(alloc, "").ok()?;
+    for tag in 0..TAGS {
+        let at = tag.wrapping_mul(2);
+        let line = format!(in alloc; "T{tag} INT DB1 {at}\n").ok()?;
+        text.push_str(line.as_str()).ok()?;
+    }
+    Some(text)
+}
+
+/// The script of a client.
+fn script_text(alloc: Global, client: u32) -> Option<String> {
+    let mut text = String::from_str(alloc, "").ok()?;
+    for number in 0..WRITES {
+        let (tag, value) = written(client, number);
+        let at = tag.wrapping_mul(2);
+        let line = format!(in alloc; "write DB1 byte {at} {value:04x}\n").ok()?;
+        text.push_str(line.as_str()).ok()?;
+    }
+    Some(text)
+}
+
+/// Appends the lines of a client's results.
+fn add_client(alloc: Global, text: &mut String, client: u32) -> Option<()> {
+    let first = format!(in alloc; "client {client} line 0 connect 00000000 -\n").ok()?;
+    text.push_str(first.as_str()).ok()?;
+    for number in 1..WRITES + 1 {
+        let line = format!(in alloc; "client {client} line {number} write 00000000 -\n").ok()?;
+        text.push_str(line.as_str()).ok()?;
+    }
+    Some(())
+}
+
+/// A file with this text.
+fn add_file(alloc: Global, files: &mut MemoryFiles, path: &str, text: &str) -> Option<()> {
+    let octets = Octets::copy_of(alloc, text.as_bytes()).ok()?;
+    files.insert(alloc, path, octets).ok()
+}
+
+/// The tag file and both scripts.
+fn all_files(alloc: Global) -> Option<MemoryFiles> {
+    let mut files = MemoryFiles::new();
+    add_file(alloc, &mut files, "t", tags_text(alloc)?.as_str())?;
+    add_file(alloc, &mut files, "a", script_text(alloc, 1)?.as_str())?;
+    add_file(alloc, &mut files, "b", script_text(alloc, 2)?.as_str())?;
+    Some(files)
+}
+
+/// What the tool printed of the rig, and the rig's end. There is none if the status isn't 0.
+fn watched(alloc: Global) -> Option<(Vec<u8>, RigEnd)> {
+    let mut files = all_files(alloc)?;
+    let mut dial: MemoryDial<MemoryLink> = MemoryDial::new(None);
+    let mut out = MemoryOut::new(alloc, 4_000_000).ok()?;
+    let areas = areas_word(alloc)?;
+    let words = [
+        "rig",
+        areas.as_str(),
+        "a",
+        "b",
+        "--watch",
+        "t",
+        "--rounds",
+        "100",
+    ];
+    let ToolEnd { status, rig, .. } = tool_main(
+        alloc,
+        &words,
+        &mut files,
+        &mut dial,
+        &mut out,
+        None::<Counter>,
+    );
+    if status != 0 {
+        return None;
+    }
+    Some((Vec::from_slice(alloc, out.text()).ok()?, rig?))
+}
+
+/// What the entries so far left in the area, what the watcher read last of each tag, its next tag and round, and the
+/// lines that it owes.
+#[derive(Drop)]
+struct Walk {
+    values: Vec<u16>,
+    lasts: Vec<Option<u16>>,
+    tag: u32,
+    round: u32,
+    lines: String,
+}
+
+impl Walk {
+    /// A walk before the first entry.
+    fn new(alloc: Global) -> Option<Walk> {
+        Some(Walk {
+            values: vec![in alloc; 0; TAGS as usize].ok()?,
+            lasts: vec![in alloc; None; TAGS as usize].ok()?,
+            tag: 0,
+            round: 1,
+            lines: String::from_str(alloc, "").ok()?,
+        })
+    }
+
+    /// Takes the next entry. There is no answer if it is neither a write of one of the two clients nor the next read of
+    /// the watcher.
+    fn take(&mut self, alloc: Global, entry: &Entry) -> Option<()> {
+        match &entry.ask.request {
+            Request::Read { items } => {
+                if entry.link != WATCHER {
+                    return None;
+                }
+                self.reads(alloc, items.as_slice())
+            }
+            Request::Write {
+                items,
+                places,
+                octets,
+            } => {
+                if entry.link >= WATCHER {
+                    return None;
+                }
+                let place = places.list().get(0)?;
+                let value = octets.as_slice().get(place.from..)?.get(..place.len)?;
+                self.writes(items.as_slice(), value)
+            }
+            _ => None,
+        }
+    }
+
+    /// Takes a write of one tag.
+    fn writes(&mut self, items: &[Item], value: &[u8]) -> Option<()> {
+        let [item] = items else {
+            return None;
+        };
+        let [high, low] = value else {
+            return None;
+        };
+        let tag = item.address / 16;
+        if *item != item_of(tag) {
+            return None;
+        }
+        *self.values.get_mut(tag as usize)? = u16::from_be_bytes([*high, *low]);
+        Some(())
+    }
+
+    /// Takes a read of the next tags: as many as one read has, or all that are left in the round.
+    fn reads(&mut self, alloc: Global, items: &[Item]) -> Option<()> {
+        let left = TAGS.checked_sub(self.tag)?;
+        if items.len() != left.min(AT_ONCE) as usize {
+            return None;
+        }
+        for item in items {
+            self.reads_next(alloc, item)?;
+        }
+        if self.tag == TAGS {
+            self.tag = 0;
+            self.round = self.round.wrapping_add(1);
+        }
+        Some(())
+    }
+
+    /// Takes the item of the next tag, and adds the line that its value owes.
+    fn reads_next(&mut self, alloc: Global, item: &Item) -> Option<()> {
+        let (tag, round) = (self.tag, self.round);
+        if *item != item_of(tag) {
+            return None;
+        }
+        let value = *self.values.get(tag as usize)?;
+        let last = self.lasts.get_mut(tag as usize)?;
+        if *last != Some(value) {
+            *last = Some(value);
+            let shown = signed(value);
+            let line = format!(in alloc; "round {round} T{tag} {shown}\n").ok()?;
+            self.lines.push_str(line.as_str()).ok()?;
+        }
+        self.tag = tag.wrapping_add(1);
+        Some(())
+    }
+
+    /// Reports whether the watcher read all tags in all rounds.
+    fn is_over(&self) -> bool {
+        self.tag == 0 && self.round == ROUNDS + 1
+    }
+}
+
+/// The number whose two octets have this value.
+fn signed(value: u16) -> i32 {
+    if value < 0x8000 {
+        i32::from(value)
+    } else {
+        i32::from(value) - 0x1_0000
+    }
+}
+
+/// The item of a tag.
+fn item_of(tag: u32) -> Item {
+    Item {
+        area: 0x84,
+        db: 1,
+        word: 0x02,
+        count: 2,
+        address: tag.wrapping_mul(16),
+    }
+}
+
+/// The lines of the watcher by the entries of the journal.
+fn lines_by(alloc: Global, entries: &[Entry]) -> Option<String> {
+    let mut walk = Walk::new(alloc)?;
+    for entry in entries {
+        walk.take(alloc, entry)?;
+    }
+    if walk.is_over() {
+        Some(walk.lines)
+    } else {
+        None
+    }
+}
+
+/// The text that the tool owes for these entries.
+fn owed(alloc: Global, entries: &[Entry]) -> Option<String> {
+    let mut text = String::from_str(alloc, "").ok()?;
+    add_client(alloc, &mut text, 1)?;
+    add_client(alloc, &mut text, 2)?;
+    text.push_str(lines_by(alloc, entries)?.as_str()).ok()?;
+    let count = entries.len();
+    let last = format!(in alloc; "journal {count}\n").ok()?;
+    text.push_str(last.as_str()).ok()?;
+    Some(text)
+}
+
+/// Reports whether the text that the tool printed is the one that the journal owes.
+fn is_as_owed(alloc: Global) -> Option<bool> {
+    let (text, end) = watched(alloc)?;
+    let owed = owed(alloc, end.book.journal.as_slice())?;
+    Some(text.as_slice() == owed.as_bytes())
+}
+
+/// Each line of a watcher of 2,048 tags over 100 rounds is what stood at its entry.
+#[test]
+fn lines_are_what_stood_at_their_entries(rt: HostRuntime) -> Result<(), Fail> {
+    assert!(rt; is_as_owed(rt.alloc()).unwrap_or(false));
+    Ok(())
+}
