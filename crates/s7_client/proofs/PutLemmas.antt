@@ -1,11 +1,11 @@
 -- Laws of telegrams that are put: nothing more is to be sent than before.
-use Rattle.std.proofs.Common.{◌≡◌, ◌⊎◌, inl, inr, ℕ, zero, suc, ◌+◌, ◌-◌, ◌*◌, ◌<◌, ◌≤◌, min, List, [], ◌++◌, length, ap, sym, ◌∙◌, subst, arith, length-append}
+use Rattle.std.proofs.Common.{◌≡◌, ◌⊎◌, inl, inr, ℕ, zero, suc, ◌+◌, ◌-◌, ◌*◌, ◌<◌, ◌≤◌, min, List, [], ◌++◌, length, refl, ap, sym, ◌∙◌, subst, append_assoc, arith, length-append}
 use Rattle.std.specs.Prelude.{Option, IsSome}
 use Rattle.std.specs.List.{flat_map}
 use Rattle.s7_outer.specs.Shown.{Shown}
 use Rattle.s7_tpkt.specs.Packets.{HoldsRest}
 use Rattle.s7_cotp.specs.Pairs.{pairs_of, pairs_from, fragments_of}
-use Rattle.s7_wire.specs.Bounds.{most_packets}
+use Rattle.s7_wire.specs.Bounds.{most_waiting}
 use Rattle.s7_wire.specs.Reads.{size_at, unfinished_in, held_by}
 use Rattle.s7_wire.specs.declared.reader.Reader.{Reader}
 use Rattle.s7_wire.specs.Sent.{fragment_octets, sent_message}
@@ -21,7 +21,7 @@ use Rattle.s7_client.specs.declared.channel.Step.{Step}
 use Rattle.s7_dialogue.specs.Flight.{Row}
 use Rattle.s7_dialogue.specs.Running.{awaited_in, unput_of, Follows, IsOver, IsOpening, IsAsking, IsLeaving, answers_left}
 use Rattle.s7_dialogue.specs.Course.{Origin, Course, course, limits}
-use Rattle.s7_client.specs.At.{IsAt, IsReading, IsClear, LeavesOpen, Puts, joiner_in, messages_left, pending, size_by, size_in}
+use Rattle.s7_client.specs.At.{IsAt, IsReading, IsClear, LeavesOpen, Puts, Queues, joiner_in, messages_left, pending, size_by, size_in}
 use Rattle.s7_client.specs.Standing.{Stands, Fits, IsBetween, IsStep, unsent}
 use Rattle.s7_client.proofs.PacketLemmas.{asking_awaits, one_is_none, opening_not_asking, over_not_asking}
 use Rattle.s7_client.proofs.StepLemmas.{left_over}
@@ -193,31 +193,93 @@ sent_some message size =
     let room = size - 3 in
     some_fragments (fragments_of n room) room 0 n message (omega arith)
 
-pub puts_telegram : (config : Config) (t t' : Talk) (r r' : Running) (message : List ℕ) → t.outbox.unsent ≡ []
-    → t'.outbox.unsent ≡ sent_message (size_in t) message
-    → length (sent_message (size_in t) message) ≤ most_packets
+-- what is queued behind the octets that were queued before
+behind : (config : Config) (t t' : Talk) (r r' : Running) (message : List ℕ)
+    → t'.outbox.unsent ≡ t.outbox.unsent ++ sent_message (size_in t) message
+    → ((size : ℕ) → unput_of config size r ≡ sent_message size message ++ unput_of config size r')
+    → size_in t' ≡ size_in t → pending config t' r' ≡ pending config t r
+behind config t t' r r' message put unput size =
+    let sent = sent_message (size_in t) message in
+    ap (λ x. x ++ unput_of config (size_in t') r') put
+    ∙ (ap (λ n. (t.outbox.unsent ++ sent) ++ unput_of config n r') size
+    ∙ (append_assoc t.outbox.unsent sent (unput_of config (size_in t) r')
+    ∙ ap (λ x. t.outbox.unsent ++ x) (sym (unput (size_in t)))))
+
+pub queues_telegram : (config : Config) (t t' : Talk) (r r' : Running) (message : List ℕ)
+    → t'.outbox.unsent ≡ t.outbox.unsent ++ sent_message (size_in t) message
     → ((size : ℕ) → unput_of config size r ≡ sent_message size message ++ unput_of config size r') → IsAsking r.stage
     → IsAsking r'.stage
     → t'.reader ≡ t.reader → t'.sequence ≡ t.sequence
     → ((granted : Option Grant) (rows : List Row) → Follows r config granted rows → Follows r' config granted rows)
     → ((carried : List ℕ) → awaited_in r' carried ≡ awaited_in r carried)
     → answers_left r'.stage ≡ answers_left r.stage → r'.job ≡ r.job
-    → Puts config t r t' r'
-puts_telegram config t t' r r' message none put few unput asks asks' reader sequence follows awaits as_many
-    done =
-    let size : size_in t' ≡ size_in t = ap size_by reader in
-    record {
-      pending =
-          ap (λ x. x ++ unput_of config (size_in t') r') put
-          ∙ (ap (λ n. sent_message (size_in t) message ++ unput_of config n r') size
-          ∙ (sym (unput (size_in t)) ∙ ap (λ x. x ++ unput_of config (size_in t) r) (sym none)));
-      none = λ empty. absurd (omega (arith, ap length (sym put ∙ empty), sent_some message (size_in t)));
-      few = λ h. omega (arith, few, ap length put);
+    → Queues config t r t' r'
+queues_telegram config t t' r r' message put unput asks asks' reader sequence follows awaits as_many done = record {
+  pending = behind config t t' r r' message put unput (ap size_by reader);
+  reader = reader;
+  sequence = sequence;
+  same = inr (asks, asks');
+  follows = follows;
+  awaits = awaits;
+  as_many = as_many;
+  job = done;
+}
+
+pub longer_by_telegram : (out out' message : List ℕ) (size : ℕ) → out' ≡ out ++ sent_message size message
+    → length out < length out'
+longer_by_telegram out out' message size put =
+    omega (arith, ap length put, length-append out (sent_message size message), sent_some message size)
+
+-- the outbox is cleared, or only the room for the message changes
+pub queues_none : (config : Config) (t t' : Talk) (r r' : Running) → t'.outbox.unsent ≡ t.outbox.unsent
+    → t'.reader ≡ t.reader → t'.sequence ≡ t.sequence → r' ≡ r → Queues config t r t' r'
+queues_none config t t' r r' out reader sequence same =
+    subst (λ (x : Running). Queues config t r t' x) (sym same) (record {
+      pending = ap (λ x. x ++ unput_of config (size_in t') r) out
+          ∙ ap (λ (x : Reader). t.outbox.unsent ++ unput_of config (size_by x) r) reader;
       reader = reader;
       sequence = sequence;
-      same = inr (asks, asks');
-      follows = follows;
-      awaits = awaits;
-      as_many = as_many;
-      job = done;
-    }
+      same = inl (out, refl);
+      follows = λ granted rows h. h;
+      awaits = λ carried. refl;
+      as_many = refl;
+      job = refl;
+    })
+
+both_same : (t t' t'' : Talk) (r r' r'' : Running)
+    → ((t'.outbox.unsent ≡ t.outbox.unsent) × (r' ≡ r)) ⊎ (IsAsking r.stage × IsAsking r'.stage)
+    → ((t''.outbox.unsent ≡ t'.outbox.unsent) × (r'' ≡ r')) ⊎ (IsAsking r'.stage × IsAsking r''.stage)
+    → ((t''.outbox.unsent ≡ t.outbox.unsent) × (r'' ≡ r)) ⊎ (IsAsking r.stage × IsAsking r''.stage)
+both_same t t' t'' r r' r'' (inl a) (inl b) = inl (b.0 ∙ a.0, b.1 ∙ a.1)
+both_same t t' t'' r r' r'' (inl a) (inr b) = inr (subst (λ (x : Running). IsAsking x.stage) a.1 b.0, b.1)
+both_same t t' t'' r r' r'' (inr a) (inl b) = inr (a.0, subst (λ (x : Running). IsAsking x.stage) (sym b.1) a.1)
+both_same t t' t'' r r' r'' (inr a) (inr b) = inr (a.0, b.1)
+
+pub queues_both : (config : Config) (t t' t'' : Talk) (r r' r'' : Running) → Queues config t r t' r'
+    → Queues config t' r' t'' r'' → Queues config t r t'' r''
+queues_both config t t' t'' r r' r'' a b = record {
+  pending = b.pending ∙ a.pending;
+  reader = b.reader ∙ a.reader;
+  sequence = b.sequence ∙ a.sequence;
+  same = both_same t t' t'' r r' r'' a.same b.same;
+  follows = λ granted rows h. b.follows granted rows (a.follows granted rows h);
+  awaits = λ carried. b.awaits carried ∙ a.awaits carried;
+  as_many = b.as_many ∙ a.as_many;
+  job = b.job ∙ a.job;
+}
+
+pub puts_by : (config : Config) (t t' : Talk) (r r' : Running) → Queues config t r t' r'
+    → (t'.outbox.unsent ≡ [] → (size : ℕ) → unput_of config size r' ≡ []) → length t'.outbox.unsent ≤ most_waiting
+    → Puts config t r t' r'
+puts_by config t t' r r' q none few = record {
+  pending = q.pending;
+  none = none;
+  few = λ h. few;
+  reader = q.reader;
+  sequence = q.sequence;
+  same = q.same;
+  follows = q.follows;
+  awaits = q.awaits;
+  as_many = q.as_many;
+  job = q.job;
+}

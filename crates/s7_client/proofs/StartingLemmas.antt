@@ -156,7 +156,7 @@ fits_ready l t r u config k b room = record {
         sent = b.quiet over;
       };
   many = λ h. omega (arith, k.clear.count);
-  few = b.few;
+  few = omega (arith, b.few);
   quiet = b.quiet;
   carried = room;
 }
@@ -301,7 +301,7 @@ fits_turned old l r u k b room = record {
   opening = λ h. absurd (over_not_opening u.running.stage k.over h);
   between = λ h. absurd (k.shut h);
   many = λ h. absurd (h k.over);
-  few = b.few;
+  few = omega (arith, b.few);
   quiet = b.quiet;
   carried = room;
 }

@@ -2,7 +2,7 @@
 use Rattle.std.specs.Prelude.{◌≡◌, ◌⊎◌, ℕ, ◌+◌, ◌-◌, ◌*◌, ◌≤◌, List, [], ◌++◌, length, Option, None, unwrap_or}
 use Rattle.s7_cotp.specs.Gathered.{Gathered}
 use Rattle.s7_cotp.specs.Messages.{open_octets}
-use Rattle.s7_wire.specs.Bounds.{most_packets, size_of_code}
+use Rattle.s7_wire.specs.Bounds.{most_packets, most_waiting, size_of_code}
 use Rattle.s7_wire.specs.Reads.{HasRead, opens_by, ended_with, size_at, unfinished_in}
 use Rattle.s7_wire.specs.declared.found.Opening.TheVariants.{Confirm}
 use Rattle.s7_wire.specs.declared.found.ReadFault.{ReadFault}
@@ -128,12 +128,24 @@ code_at s TooLong = message_too_long
 
 -- ---- what is queued
 
--- The next telegram was queued, if the outbox was empty and there was one. What is still to be sent stays the same.
+-- Telegrams were queued behind those that were queued before, or none was. What is still to be sent stays the same.
+pub record Queues (config : Config) (t : Talk) (r : Running) (t' : Talk) (r' : Running) : Type 0 where
+  pub pending : pending config t' r' ≡ pending config t r
+  pub reader : t'.reader ≡ t.reader
+  pub sequence : t'.sequence ≡ t.sequence
+  pub same : ((t'.outbox.unsent ≡ t.outbox.unsent) × (r' ≡ r)) ⊎ (IsAsking r.stage × IsAsking r'.stage)
+  pub follows : (granted : Option Grant) (rows : List Row) → Follows r config granted rows
+      → Follows r' config granted rows
+  pub awaits : (carried : List ℕ) → awaited_in r' carried ≡ awaited_in r carried
+  pub as_many : answers_left r'.stage ≡ answers_left r.stage
+  pub job : r'.job ≡ r.job
+
+-- The next telegrams were queued, if the outbox was empty and there was one. What is still to be sent stays the same.
 pub record Puts (config : Config) (t : Talk) (r : Running) (t' : Talk) (r' : Running) : Type 0 where
   pub pending : pending config t' r' ≡ pending config t r
   -- if the outbox is empty after that, nothing is left to send
   pub none : t'.outbox.unsent ≡ [] → (size : ℕ) → unput_of config size r' ≡ []
-  pub few : length t.outbox.unsent ≤ most_packets → length t'.outbox.unsent ≤ most_packets
+  pub few : length t.outbox.unsent ≤ most_waiting → length t'.outbox.unsent ≤ most_waiting
   pub reader : t'.reader ≡ t.reader
   pub sequence : t'.sequence ≡ t.sequence
   pub same : ((t'.outbox.unsent ≡ t.outbox.unsent) × (r' ≡ r)) ⊎ (IsAsking r.stage × IsAsking r'.stage)

@@ -4,7 +4,7 @@ use Rattle.std.specs.Io.KnownBytes.{prepend_known, append_known, IsAtEnd}
 use Rattle.s7_outer.specs.Shown.{Shown}
 use Rattle.s7_outer.specs.Count.{Rose}
 use Rattle.s7_tpkt.specs.Packets.{HoldsRest}
-use Rattle.s7_wire.specs.Bounds.{most_packets}
+use Rattle.s7_wire.specs.Bounds.{most_waiting}
 use Rattle.s7_wire.specs.Reads.{size_at, held_by}
 use Rattle.s7_dialogue.specs.declared.config.Config.{Config}
 use Rattle.s7_dialogue.specs.declared.grant.Grant.{Grant}
@@ -67,7 +67,7 @@ pub record Fits (l : Channel) (u : UnderWay) : Type 0 where
   pub opening : IsOpening u.running.stage → IsClear (joiner_in l.talk)
   pub between : LeavesOpen u.running.stage → IsBetween l
   pub many : (IsOver u.running.stage → ⊥) → (joiner_in l.talk).count ≤ 64
-  pub few : length (unsent l) ≤ most_packets
+  pub few : length (unsent l) ≤ most_waiting
   pub quiet : IsOver u.running.stage → unsent l ≡ []
   pub carried : u.carried.room ≡ 8192
 

@@ -1,10 +1,11 @@
 //! The messages of a client's link: sending the telegrams of a job, and taking messages.
-ghost use Rattle.std.specs.Prelude.{◌≡◌, ◌<◌, ◌≤◌, ℕ, List, [], ◌++◌, length, take, None};
+ghost use Rattle.std.specs.Prelude.{◌≡◌, ◌+◌, ◌<◌, ◌≤◌, ℕ, List, [], ◌++◌, length, take, None, true, false};
 ghost use Rattle.s7_outer.specs.Numbers.{two_octets};
 ghost use Rattle.s7_tpkt.specs.Packets.{state_of};
 ghost use Rattle.s7_tpkt.specs.declared.state.FedState.TheVariants.{More};
 ghost use Rattle.s7_cotp.specs.Told.{tsap_of};
 ghost use Rattle.s7_header.specs.Negotiation.{most_pdu};
+ghost use Rattle.s7_wire.specs.Bounds.{most_packets};
 ghost use Rattle.s7_wire.specs.Reads.{HasRead, HasFound, HasMessage, opens_by, ended_with, message_at};
 ghost use Rattle.s7_wire.specs.Reads.{held_by, limit_at};
 ghost use Rattle.s7_dialogue.specs.Running.{IsAsking, IsOpening, unput_of};
@@ -16,7 +17,7 @@ use s7_cotp::{Connection, Tsap, write_connect, write_disconnect};
 use s7_dialogue::codes::{INVALID_ANSWER, SHORT_MESSAGE};
 use s7_dialogue::{Config, Grant, Running, Stage};
 use s7_outer::Buffer;
-use s7_wire::{Found, Outbox, Reader, Taken, put_message};
+use s7_wire::{Found, MOST_PACKETS, Outbox, Reader, Taken, put_message};
 
 /// The TPDU size to ask for, in octets.
 const ASKED_SIZE: u16 = 1_024;
@@ -48,7 +49,7 @@ pub(crate) struct Talk {
 }
 
 impl Talk {
-    ghost use Rattle.s7_client.specs.At.{IsAt, Reaches, Settles, Puts, BeginsTalk, size_in};
+    ghost use Rattle.s7_client.specs.At.{IsAt, Reaches, Settles, Puts, Queues, BeginsTalk, size_in};
 
     /// Begins a job: queues its connection or disconnect request, or asks its first questions.
     pub(crate) fn begin(&mut self, running: &mut Running, config: &Config)
@@ -65,18 +66,37 @@ impl Talk {
         }
     }
 
-    /// Queues the next telegram that may be sent, if there is one and all before it was sent.
+    /// Queues the telegrams that may be sent, as many as there is room for, if all before them were sent. So one
+    /// transmit sends them all.
     pub(crate) fn put_next(&mut self, running: &mut Running, config: &Config)
         ensures { Puts config.now self.old running.old self.new running.new }
     {
         if !self.outbox.is_empty() {
             return;
         }
+        self.outbox.clear();
+        while self.outbox.room() >= MOST_PACKETS {
+            if !self.put_one(running, config) {
+                return;
+            }
+        }
+    }
+
+    /// Queues the next telegram that may be sent, after those that are queued. Returns false if there is none.
+    fn put_one(&mut self, running: &mut Running, config: &Config) -> bool
+        requires room { most_packets ≤ self.old.outbox.room }
+        ensures queues { Queues config.now self.old running.old self.new running.new }
+        ensures room { length self.new.outbox.unsent + self.new.outbox.room
+            ≡ length self.old.outbox.unsent + self.old.outbox.room }
+        ensures some { result ≡ true → length self.old.outbox.unsent < length self.new.outbox.unsent }
+        ensures none { result ≡ false → (size : ℕ) → unput_of config.now size running.new ≡ [] }
+    {
         if running.write_next(config, &mut self.message) {
-            self.outbox.clear();
             let size = self.size();
             put_message(&mut self.outbox, size, self.message.as_slice());
+            return true;
         }
+        false
     }
 
     /// The TPDU size of the link: the size that was asked for, until the confirm states another.

@@ -168,7 +168,7 @@ const DOWNLOAD: &str = "\
 JOBS 1 2 8
 MOST 35
 PDU 480
-CALLS pass*17
+CALLS pass*16
 GIVES GRANTED_64 ANNOUNCED ASKS_1 ASKS_2 CLOSES INSERTED
 JOB download 70700101050c00050000002f 00*22 000b 0-11
 RESULT 0
@@ -186,8 +186,8 @@ CLOSED 0300001402f0803203000000030001000000001c
 INSERTS 0300002b02f080320100000003001a000028000000000000fd000a01003043303030303550055f494e5345
 INSERTED 0300001502f0803203000000030002000000002800";
 
-/// The calls of that download. The announcement goes in two transmits, the first piece in three and the insertion in
-/// two.
+/// The calls of that download. The announcement goes in two transmits, and the first piece in three. The answer that
+/// closes the download and the insertion go in two together.
 const DOWNLOAD_CALLS: &str = "\
 4 | 00090000 | 47
 5 | 00090000 | 82
@@ -199,9 +199,8 @@ const DOWNLOAD_CALLS: &str = "\
 11 | 00090000 | 167
 12 | 000a0000 | 193
 13 | 00090000 | 193
-14 | 00090000 | 213
-15 | 00090000 | 248
-16 | 000a0000 | 256";
+14 | 00090000 | 228
+15 | 000a0000 | 256";
 
 /// The list of the data blocks, in slices of 38, 38 and 4 octets.
 const LIST: &str = "\
@@ -238,7 +237,7 @@ const FLIGHT: &str = "\
 JOBS 4
 MOST 80
 PDU 480
-CALLS pass*13
+CALLS pass*11
 GIVES GRANTED_64 THIRD FIRST FIFTH SECOND FOURTH
 JOB read 84.1.02.230.0
 RESULT 0 : 11*46 22*46 33*46 44*46 55*46
@@ -256,18 +255,16 @@ THIRD 0300004702f0803203000000040002003200000401ff040170 33*46
 FOURTH 0300004702f0803203000000050002003200000401ff040170 44*46
 FIFTH 0300004702f0803203000000060002003200000401ff040170 55*46";
 
-/// The calls of that read.
+/// The calls of that read. Its first four requests, of 124 octets, go in two transmits together.
 const FLIGHT_CALLS: &str = "\
 3 | 00090000 | 47
-4 | 00090000 | 78
-5 | 00090000 | 109
-6 | 00090000 | 140
-7 | 000a0000 | 171
-8 | 00090000 | 171
+4 | 00090000 | 127
+5 | 000a0000 | 171
+6 | 00090000 | 171
+7 | 000a0000 | 202
+8 | 000a0000 | 202
 9 | 000a0000 | 202
-10 | 000a0000 | 202
-11 | 000a0000 | 202
-12 | 000a0000 | 202";
+10 | 000a0000 | 202";
 
 /// A read in eight parts of 1,902 octets at the greatest PDU. All its answers are there from the start. The link gives
 /// 22 octets, 27, and eight times 1,934, which is 15,521 in all, and would move them in one call. The client takes
@@ -276,7 +273,7 @@ const MUCH: &str = "\
 JOBS 8
 MOST 16384
 PDU 1920
-CALLS pass*12
+CALLS pass*5
 GIVES GRANTED FIRST SECOND THIRD FOURTH FIFTH SIXTH SEVENTH EIGHTH
 JOB read 84.1.02.15216.0
 RESULT 0 : 0-15216
@@ -302,17 +299,10 @@ SIXTH 0300040402f0003203000000070002077200000401ff043b70 9510-10513 0300038a02f0
 SEVENTH 0300040402f0003203000000080002077200000401ff043b70 11412-12415 0300038a02f080 12415-13314
 EIGHTH 0300040402f0003203000000090002077200000401ff043b70 13314-14317 0300038a02f080 14317-15216";
 
-/// The calls of that read.
+/// The calls of that read. Its eight requests go in one transmit.
 const MUCH_CALLS: &str = "\
 3 | 00090000 | 47
-4 | 00090000 | 78
-5 | 00090000 | 109
-6 | 00090000 | 140
-7 | 00090000 | 171
-8 | 00090000 | 202
-9 | 00090000 | 233
-10 | 00090000 | 264
-11 | 000a0000 | 295";
+4 | 000a0000 | 295";
 
 /// Each exchange in each form.
 const FORMS: &[Form] = &[

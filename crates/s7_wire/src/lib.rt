@@ -18,7 +18,7 @@ pub use laws::{
     fragments_are_joined, limits_of_openings, numbers_of_readings, readers_end, reading_goes_on,
 };
 pub use limits::{FIRST_LIMIT, HEADERS, MESSAGE_LIMIT};
-pub use message::{MOST_MESSAGE, put_message};
+pub use message::{MOST_MESSAGE, MOST_PACKETS, put_message};
 pub use outbox::Outbox;
 pub use reader::Reader;
 pub use sizes::tpdu_size;

@@ -9,6 +9,9 @@ use s7_cotp::{fragments, write_data};
 /// The greatest number of octets of a message that is sent.
 pub const MOST_MESSAGE: usize = 1_920;
 
+/// The greatest number of octets of such a message in its packets, at the TPDU size 128.
+pub const MOST_PACKETS: usize = 2_032;
+
 /// The length of a data TPDU's header.
 const DATA_HEADER: usize = 3;
 

@@ -57,6 +57,13 @@ impl Outbox {
         self.from == self.upto
     }
 
+    /// The number of octets that can still be queued: those of packets, with their headers.
+    pub fn room(&self) -> usize
+        ensures { result ≡ self.now.room }
+    {
+        OUTGOING - self.upto
+    }
+
     /// The octets still to be sent.
     fn as_slice(&self) -> &[u8]
         ensures { result.now ≡ self.now.unsent }
