@@ -1,8 +1,8 @@
 -- What a word gives of the areas that it names.
-use Rattle.std.specs.Prelude.{◌≡◌, ◌≢◌, ◌⊎◌, ℕ, nat_lt, List, length, Option, Some, None, Result, Ok, Err, IsTrue, if◌then◌else◌}
+use Rattle.std.specs.Prelude.{◌≡◌, ◌≢◌, ◌≤◌, ◌⊎◌, ℕ, ◌+◌, List, length, Some, None, Result, Ok, Err, IsTrue}
 use Rattle.s7_outer.specs.Count.{Rose}
 use Rattle.s7_outer.specs.FilesShown.{FilesShown}
-use Rattle.s7_outer.specs.Files.{file_limit, NonePathFell, NoPathRoseTwice}
+use Rattle.s7_outer.specs.Files.{file_limit, IsCutFrom, NonePathFell, NoPathRoseTwice}
 use Rattle.s7_item.specs.Codes.{data_blocks}
 use Rattle.s7_area.specs.Memory.{Memory, no_areas, with_area}
 use Rattle.s7_text.specs.Lines.{Text}
@@ -21,35 +21,50 @@ abbrev pub with_line_fault : Result Memory AreasFault → Result Memory LoadFaul
 with_line_fault (Ok m) = Ok m
 with_line_fault (Err e) = Err (fault.Line e.line)
 
--- what the file under a path gives, as an area file
-abbrev pub file_gives : Option Text → Result Memory LoadFault
-file_gives None = Err fault.Failed
-file_gives (Some octets) =
-    if nat_lt file_limit (length octets) then Err fault.TooLong else with_line_fault (areas octets)
+-- ---- what is read under a path
 
--- what the named areas give, if these are the files under their paths
-abbrev pub named_gives : Named → (Text → Option Text) → Result Memory LoadFault
-named_gives (path p) held = file_gives (held p)
-named_gives (block number octets) held = Ok (opening number octets)
-named_gives faulty held = Err (fault.Line 1)
+-- THE OCTETS READ UNDER A PATH, no more than the limit and those of the file if the files show them, have this property
+pub record Reads (p : Text) (files : FilesShown) (says : Text → Type 0) : Type 0 where
+  pub octets : Text
+  pub sized : length octets ≤ file_limit
+  pub held : IsTrue files.tells → files.held p ≡ Some octets
+  pub so : says octets
 
--- whether contracts see the octets: inline words contain them
-abbrev pub IsTold : Named → FilesShown → Type 0
-IsTold (path p) files = IsTrue files.tells
-IsTold (block number octets) files = Unit {0}
-IsTold faulty files = Unit {0}
+-- MORE OCTETS THAN THE LIMIT WERE READ under a path; they are the first octets of a longer file if the files show them
+pub record ReadsTooMany (p : Text) (files : FilesShown) : Type 0 where
+  pub octets : Text
+  pub passed : length octets ≡ file_limit + 1
+  pub cut : IsTrue files.tells → IsCutFrom (files.held p) octets
 
--- the named areas give this result, if contracts see the octets
+-- what the file under a path gives, as an area file: its areas, its first faulty line, or that it is too long
+abbrev pub FileGives : Text → FilesShown → Result Memory LoadFault → Type 0
+FileGives p files (Ok m) = Reads p files (λ octets. areas octets ≡ Ok m)
+FileGives p files (Err fault.Failed) = ⊥
+FileGives p files (Err fault.TooLong) = ReadsTooMany p files
+FileGives p files (Err (fault.Line n)) =
+    Reads p files (λ octets. with_line_fault (areas octets) ≡ Err (fault.Line n))
+FileGives p files (Err fault.Memory) = ⊥
+
+-- WHAT THE NAMED AREAS GIVE: the one data block of an inline word, or what was read under the path. A file that failed
+-- and memory that ran out give nothing
 abbrev pub NamedGives : Named → FilesShown → Result Memory LoadFault → Type 0
-NamedGives named files result = IsTold named files → named_gives named files.held ≡ result
+NamedGives (path p) files result = FileGives p files result
+NamedGives (block number octets) files result = result ≡ Ok (opening number octets)
+NamedGives faulty files result = result ≡ Err (fault.Line 1)
 
 -- the result is what the named areas give, unless memory ran out or the file failed
-abbrev pub Answers : Result Memory LoadFault → Result Memory LoadFault → Type 0
-Answers told (Ok m) = told ≡ Ok m
-Answers told (Err fault.Failed) = Unit {0}
-Answers told (Err fault.TooLong) = told ≡ Err fault.TooLong
-Answers told (Err (fault.Line n)) = told ≡ Err (fault.Line n)
-Answers told (Err fault.Memory) = Unit {0}
+abbrev pub Answers : Named → FilesShown → Result Memory LoadFault → Type 0
+Answers named files (Ok m) = NamedGives named files (Ok m)
+Answers named files (Err fault.Failed) = Unit {0}
+Answers named files (Err fault.TooLong) = NamedGives named files (Err fault.TooLong)
+Answers named files (Err (fault.Line n)) = NamedGives named files (Err (fault.Line n))
+Answers named files (Err fault.Memory) = Unit {0}
+
+-- the files show that there is none under the named path
+abbrev pub IsMissing : Named → FilesShown → Type 0
+IsMissing (path p) files = IsTrue files.tells × (files.held p ≡ None)
+IsMissing (block number octets) files = ⊥
+IsMissing faulty files = ⊥
 
 -- ONE CALL ON A PATH FAILED: the path's count rose, and no count fell or rose twice
 abbrev pub PathFailed : Text → (Text → ℕ) → (Text → ℕ) → Type 0
@@ -73,14 +88,32 @@ LeavesFiles faulty old new = new ≡ old
 
 -- A WORD WAS LOADED
 pub record Loads (named : Named) (old new : FilesShown) (result : Result Memory LoadFault) : Type 0 where
-  pub answers : IsTold named old → Answers (named_gives named old.held) result
+  pub answers : Answers named old result
   pub failed : result ≡ Err fault.Failed → HasFailed named old new
   -- unless the file failed, no count rose either
   pub unfailed : result ≢ Err fault.Failed → new ≡ old
   -- a file that doesn't exist fails
-  pub missing : IsTold named old → named_gives named old.held ≡ Err fault.Failed → result ≡ Err fault.Failed
+  pub missing : IsMissing named old → result ≡ Err fault.Failed
   pub left : LeavesFiles named old new
 
 -- what an inline word gives
+abbrev pub inline_gives : Named → Result Memory LoadFault
+inline_gives (path p) = Err fault.Failed
+inline_gives (block number octets) = Ok (opening number octets)
+inline_gives faulty = Err (fault.Line 1)
+
+-- an inline word was loaded, unless memory ran out
 abbrev pub LoadsBlock : Named → Result Memory LoadFault → Type 0
-LoadsBlock named result = Answers (named_gives named (λ _. None)) result × (result ≢ Err fault.Failed)
+LoadsBlock named (Ok m) = inline_gives named ≡ Ok m
+LoadsBlock named (Err fault.Failed) = ⊥
+LoadsBlock named (Err fault.TooLong) = ⊥
+LoadsBlock named (Err (fault.Line n)) = inline_gives named ≡ Err (fault.Line n)
+LoadsBlock named (Err fault.Memory) = Unit {0}
+
+-- what octets that were read give, as an area file
+abbrev pub AnswersOctets : Text → Result Memory LoadFault → Type 0
+AnswersOctets octets (Ok m) = areas octets ≡ Ok m
+AnswersOctets octets (Err fault.Failed) = ⊥
+AnswersOctets octets (Err fault.TooLong) = ⊥
+AnswersOctets octets (Err (fault.Line n)) = with_line_fault (areas octets) ≡ Err (fault.Line n)
+AnswersOctets octets (Err fault.Memory) = Unit {0}

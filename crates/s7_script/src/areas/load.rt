@@ -2,10 +2,9 @@
 ghost use Rattle.std.specs.Prelude.{◌≡◌, ◌≢◌, ◌≤◌, length, option_map, Err, IfSome, Ok};
 ghost use Rattle.hex.specs.Hex.{decode_of};
 ghost use Rattle.s7_text.specs.Fields.{number_of};
-ghost use Rattle.s7_script.specs.Reading.{areas as areas_by};
 ghost use Rattle.s7_script.specs.Naming.{naming, path, inline_parts, block_number, block_octets, block_named};
 ghost use Rattle.s7_script.specs.Naming.{block_with};
-ghost use Rattle.s7_script.specs.Loading.{Loads, LoadsBlock, Answers, opening, with_line_fault};
+ghost use Rattle.s7_script.specs.Loading.{AnswersOctets, Loads, LoadsBlock};
 
 use crate::areas::read::read_areas;
 use crate::{AreasFault, AreasKind};
@@ -121,8 +120,7 @@ fn load_file<F: Files>(alloc: Global, files: &mut F, file: &str) -> Result<Areas
 
 /// The areas of an area file, or the number of its first faulty line.
 fn areas_of(alloc: Global, text: &[u8]) -> Result<Areas, LoadFault>
-    ensures told { Answers (with_line_fault (areas_by text.now)) result }
-    ensures read { result ≢ Err LoadFault.Failed }
+    ensures { AnswersOctets text.now result }
 {
     match read_areas(alloc, text) {
         Ok(areas) => Ok(areas),
