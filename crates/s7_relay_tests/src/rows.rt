@@ -1,14 +1,13 @@
 // Rows: words, a windows file and what two links give; the status, the text, what both links were told, and how many
 // telegrams are kept.
-//
-// `relay_main` is called in `relayed` alone, since each function that calls it is costly to prove.
 use crate::octets::{
     ANSWER, CONFIRM, CONNECT, FAR_ANSWER, FAR_GRANTED, FAR_READ, FAR_SETUP, GRANTED, NO_LINK,
     NO_ROOM, READ, SETUP, octets_of,
 };
+use crate::programs::relayed;
 use s7_memory::{MemoryDial, MemoryFiles, MemoryLink, MemoryOut};
 use s7_outer::Octets;
-use s7_relay_main::{RelayEnd, relay_main};
+use s7_relay_main::RelayEnd;
 use std::alloc::Global;
 use std::sync::Wait;
 use std::test::Fail;
@@ -61,24 +60,11 @@ fn a_dial(alloc: Global, row: &Row) -> Option<MemoryDial<MemoryLink>> {
 }
 
 /// A file `w.txt` of this text.
-pub(crate) fn a_file(alloc: Global, text: &str) -> Option<MemoryFiles> {
+fn a_file(alloc: Global, text: &str) -> Option<MemoryFiles> {
     let mut files = MemoryFiles::new();
     let text = Octets::copy_of(alloc, text.as_bytes()).ok()?;
     files.insert(alloc, "w.txt", text).ok()?;
     Some(files)
-}
-
-/// What the relay leaves. Nothing is promised of it.
-fn relayed<R: Wait + Clock>(
-    rt: &R,
-    alloc: Global,
-    row: &Row,
-    files: &mut MemoryFiles,
-    pipe: MemoryLink,
-    dial: MemoryDial<MemoryLink>,
-    out: &mut MemoryOut,
-) -> End {
-    relay_main(rt, alloc, row.words, files, pipe, dial, out)
 }
 
 /// The octets written on a link are these packets.
@@ -112,7 +98,7 @@ fn goes<R: Wait + Clock>(rt: &R, alloc: Global, row: &Row) -> Option<bool> {
     let pipe = a_link(alloc, row.near)?;
     let dial = a_dial(alloc, row)?;
     let mut out = MemoryOut::new(alloc, row.room).ok()?;
-    let end = relayed(rt, alloc, row, &mut files, pipe, dial, &mut out);
+    let end = relayed(rt, alloc, row.words, &mut files, pipe, dial, &mut out);
     Some(
         end.status == row.status
             && out.text() == row.prints.as_bytes()
