@@ -11,7 +11,7 @@ use std::test::Fail;
 use std::thread::{Threads, join};
 use std::time::Clock;
 
-/// The texts of files by their paths. The first eight are those of `examples/`.
+/// The texts of files by their paths. The first seven are those of `examples/`.
 const FILES: &[(&str, &str)] = &[
     ("reader.script", "read DB1 byte 0 4\n"),
     ("writer.script", "write DB1 byte 0 aabbccdd\n"),

@@ -2,13 +2,16 @@
 ghost use Rattle.std.specs.Prelude.{IfSome};
 ghost use Rattle.std.specs.Str.{IsUtf8};
 
+use crate::fields::{is, octets};
 use crate::sessions::{
     CONFIRM, CONNECT, GRANTED, Line, READ, READ_ANSWER, READ_FULL, SETUP, STOP, a_line, is_written,
     octets_of,
 };
-use s7_client::Config;
+use s7_client::{Config, Job, JobResult};
+use s7_item::{DataItems, DataPlace, Item, Items, read_data_items, read_items};
 use s7_memory::{FailingLink, Fate, MemoryDial, MemoryLink};
 use s7_outer::Octets;
+use s7_plant::{Reply, Request};
 use s7_relay::{Passage, RelayDoer, Relayed, read_windows};
 use s7_session::{Outcome, Session};
 use std::alloc::Global;
@@ -30,8 +33,10 @@ const FAR_GRANTED: &str = "320300000001000800000000F0000001000101E0";
 /// A grant of a PDU of 64.
 const FAR_GRANTED_64: &str = "320300000001000800000000F000000100010040";
 
-/// The near read asked far, its answer, and the same answer with another sequence.
+/// The near read asked far, the same read once more, its answer, and the answer to the second one.
 const FAR_READ: &str = "320100000002000E00000401120A10020004000784000050";
+
+const NEXT_FAR_READ: &str = "320100000003000E00000401120A10020004000784000050";
 
 const FAR_ANSWER: &str = "3203000000020002000800000401FF04002011223344";
 
@@ -118,7 +123,8 @@ const FAR_FAULT: &str = "320200000005000000008F08";
 const NO_FUNCTION: &str = "32020000000D000000008104";
 
 /// A link whose doer keeps so many telegrams: its windows, what the far link gives if there is one, what becomes of the
-/// far link's calls, what the near link asks and is answered, what is asked far, and how far each telegram got.
+/// far link's calls, what the near link asks and is answered, what is asked far, and how far each telegram got that is
+/// kept.
 struct Row {
     windows: &'static str,
     limit: u64,
@@ -127,7 +133,7 @@ struct Row {
     asked: &'static [&'static str],
     answered: &'static [&'static str],
     asked_far: &'static [&'static str],
-    kept: &'static str,
+    kept: &'static [Got],
 }
 
 /// A doer over a dial in memory.
@@ -185,28 +191,193 @@ fn serve<R: Wait + Clock>(rt: &R, alloc: Global, talk: &mut Talk) -> Option<Outc
     Some(session.serve(rt, alloc, &mut talk.near, &mut talk.doer))
 }
 
-/// The letter of how far a telegram got.
-fn letter(passage: &Passage) -> u8 {
-    match passage {
-        Passage::Near => b'N',
-        Passage::Undialled => b'D',
-        Passage::Unconnected { .. } => b'C',
-        Passage::Unpacked { .. } => b'P',
-        Passage::Asked { .. } => b'A',
+/// How far a telegram got, by what the far connect and the far job gave.
+enum Got {
+    /// It was answered near.
+    Near,
+    /// The dial failed.
+    Undialled,
+    /// The connect ended with this code.
+    Unconnected(u32),
+    /// The client was connected for it, and it isn't asked.
+    Unpacked,
+    /// Whether the client was connected for it; the code of the job, the codes of its items, and its octets.
+    Asked(bool, u32, &'static str, &'static str),
+}
+
+/// Items that are asked for, and the octets to write to them, joined.
+#[derive(Drop)]
+struct Asked {
+    items: Vec<Item>,
+    octets: Vec<u8>,
+}
+
+/// The parameters of a message whose head is this long, and its data.
+fn parts_of(message: &[u8], head: usize) -> Option<(&[u8], &[u8])> {
+    let len = u16::from_be_bytes([*message.get(6)?, *message.get(7)?]);
+    let rest = message.get(head..)?;
+    Some((rest.get(..usize::from(len))?, rest.get(usize::from(len)..)?))
+}
+
+/// The octets at these places, joined.
+fn joined(alloc: Global, places: &[DataPlace], octets: &[u8]) -> Option<Vec<u8>> {
+    let mut all = Vec::new(alloc);
+    for place in places {
+        let part = octets.get(place.from..)?.get(..place.len)?;
+        all.extend_from_slice(part).ok()?;
+    }
+    Some(all)
+}
+
+/// What a telegram asks for; `None` if it is neither a read nor a write.
+fn asked_in(alloc: Global, telegram: &str) -> Option<Asked> {
+    let message = octets(alloc, telegram)?;
+    let (params, data) = parts_of(message.as_slice(), 10)?;
+    let mut items = Items::new();
+    read_items(params, &mut items).ok()?;
+    let mut places = DataItems::new();
+    if !data.is_empty() {
+        read_data_items(data, items.len(), &mut places).ok()?;
+    }
+    Some(Asked {
+        items: items.as_slice().to_vec(alloc).ok()?,
+        octets: joined(alloc, places.as_slice(), data)?,
+    })
+}
+
+/// What a request asks for; `None` if it is neither a read nor a write.
+fn asked_by(alloc: Global, request: &Request) -> Option<Asked> {
+    match request {
+        Request::Read { items } => Some(Asked {
+            items: items.as_slice().to_vec(alloc).ok()?,
+            octets: Vec::new(alloc),
+        }),
+        Request::Write {
+            items,
+            places,
+            octets,
+        } => Some(Asked {
+            items: items.as_slice().to_vec(alloc).ok()?,
+            octets: joined(alloc, places.list().as_slice(), octets.as_slice())?,
+        }),
+        _ => None,
     }
 }
 
-/// The telegrams that are kept got as far as these letters say.
-fn are_kept(kept: &[Relayed], letters: &[u8]) -> bool {
-    if kept.len() != letters.len() {
-        return false;
+/// What a far job asks for; `None` if it is neither a read nor a write.
+fn asked_far_by(alloc: Global, job: &Job) -> Option<Asked> {
+    match job {
+        Job::ReadMany { items } => Some(Asked {
+            items: items.as_slice().to_vec(alloc).ok()?,
+            octets: Vec::new(alloc),
+        }),
+        Job::WriteMany { items, octets } => Some(Asked {
+            items: items.as_slice().to_vec(alloc).ok()?,
+            octets: octets.as_slice().to_vec(alloc).ok()?,
+        }),
+        _ => None,
     }
-    for (relayed, wanted) in kept.iter().zip(letters.iter()) {
-        if letter(&relayed.passage) != *wanted {
-            return false;
+}
+
+/// Whether the same is asked for.
+fn are_same(one: &Option<Asked>, other: &Option<Asked>) -> bool {
+    match (one, other) {
+        (Some(one), Some(other)) => {
+            one.items.as_slice() == other.items.as_slice()
+                && one.octets.as_slice() == other.octets.as_slice()
+        }
+        (None, None) => true,
+        _ => false,
+    }
+}
+
+/// Whether a reply is this answer.
+fn is_answer(alloc: Global, reply: &Reply, answer: &str) -> Option<bool> {
+    let message = octets(alloc, answer)?;
+    let (params, data) = parts_of(message.as_slice(), 12)?;
+    let error = u16::from_be_bytes([*message.get(10)?, *message.get(11)?]);
+    Some(reply.error == error && reply.params.as_slice() == params && reply.body.as_slice() == data)
+}
+
+/// Whether a connect ended with this code.
+fn is_connect(connect: &JobResult, code: u32) -> bool {
+    matches!(connect.job, Job::Connect)
+        && connect.code == code
+        && connect.count == 0
+        && connect.octets.as_slice().is_empty()
+}
+
+/// Whether there was a connect, which ended with 0, exactly if one is expected.
+fn is_connected(connect: &Option<JobResult>, wanted: bool) -> bool {
+    match connect {
+        Some(connect) => wanted && is_connect(connect, 0),
+        None => !wanted,
+    }
+}
+
+/// Whether a far job asked for what this telegram does, and ended with these codes and octets.
+fn is_job(alloc: Global, job: &JobResult, telegram: &str, wanted: &Got) -> Option<bool> {
+    let Got::Asked(_, code, codes, octets) = wanted else {
+        return None;
+    };
+    let found = job.codes.get(..usize::from(job.count))?;
+    Some(
+        job.code == *code
+            && is(alloc, found, codes)
+            && is(alloc, job.octets.as_slice(), octets)
+            && are_same(&asked_far_by(alloc, &job.job), &asked_in(alloc, telegram)),
+    )
+}
+
+/// Whether a telegram got as far as wanted. If it was asked far, then as this telegram.
+fn is_passed(alloc: Global, passage: &Passage, wanted: &Got, telegram: &str) -> Option<bool> {
+    match (passage, wanted) {
+        (Passage::Near, Got::Near) | (Passage::Undialled, Got::Undialled) => Some(true),
+        (Passage::Unconnected { connect }, Got::Unconnected(code)) => {
+            Some(is_connect(connect, *code))
+        }
+        (Passage::Unpacked { connect }, Got::Unpacked) => Some(is_connected(connect, true)),
+        (Passage::Asked { connect, job }, Got::Asked(connected, ..)) => Some(
+            is_connected(connect, *connected) && is_job(alloc, job, telegram, wanted)?,
+        ),
+        _ => Some(false),
+    }
+}
+
+/// The telegram with this number, from 0, after the connect request and the negotiation, or after their answers.
+fn telegram_of(all: &[&'static str], nth: usize) -> Option<&'static str> {
+    all.get(2..)?.get(nth).copied()
+}
+
+/// Whether a telegram is kept as it was asked and answered, with the results of what was asked far.
+fn is_kept(
+    alloc: Global,
+    relayed: &Relayed,
+    row: &Row,
+    nth: usize,
+    nth_far: usize,
+) -> Option<bool> {
+    let asked = asked_in(alloc, telegram_of(row.asked, nth)?);
+    let asked_far = telegram_of(row.asked_far, nth_far).unwrap_or("-");
+    Some(
+        are_same(&asked_by(alloc, &relayed.ask.request), &asked)
+            && is_answer(alloc, &relayed.reply, telegram_of(row.answered, nth)?)?
+            && is_passed(alloc, &relayed.passage, row.kept.get(nth)?, asked_far)?,
+    )
+}
+
+/// The telegrams that are kept are those of the row.
+fn are_kept(alloc: Global, kept: &[Relayed], row: &Row) -> Option<bool> {
+    let mut nth_far = 0usize;
+    for (nth, relayed) in kept.iter().enumerate() {
+        if !is_kept(alloc, relayed, row, nth, nth_far)? {
+            return Some(false);
+        }
+        if matches!(relayed.passage, Passage::Asked { .. }) {
+            nth_far = nth_far.saturating_add(1);
         }
     }
-    true
+    Some(kept.len() == row.kept.len())
 }
 
 /// What was asked over the link that was dialled last is this; nothing if none was dialled.
@@ -225,7 +396,7 @@ fn goes<R: Wait + Clock>(rt: &R, alloc: Global, row: &Row) -> Option<bool> {
         outcome == Outcome::Ended
             && is_written(alloc, &talk.near, row.answered)
             && is_asked_far(alloc, &talk.doer, row.asked_far)
-            && are_kept(talk.doer.kept(), row.kept.as_bytes()),
+            && are_kept(alloc, talk.doer.kept(), row)?,
     )
 }
 
@@ -240,7 +411,21 @@ const LINKS: &[Row] = &[
         asked: &[CONNECT, SETUP, READ],
         answered: &[CONFIRM, GRANTED, READ_ANSWER],
         asked_far: &[CONNECT, FAR_SETUP, FAR_READ],
-        kept: "A",
+        kept: &[Got::Asked(true, 0, "FF", "11223344")],
+    },
+    // Two reads are asked over one far link.
+    Row {
+        windows: WINDOWS,
+        limit: 9,
+        far: Some(&[CONFIRM, FAR_GRANTED, FAR_ANSWER, OTHER_ANSWER]),
+        fates: &[],
+        asked: &[CONNECT, SETUP, READ, READ],
+        answered: &[CONFIRM, GRANTED, READ_ANSWER, READ_ANSWER],
+        asked_far: &[CONNECT, FAR_SETUP, FAR_READ, NEXT_FAR_READ],
+        kept: &[
+            Got::Asked(true, 0, "FF", "11223344"),
+            Got::Asked(false, 0, "FF", "11223344"),
+        ],
     },
     // The far link ends there, and the next read dials again, in vain.
     Row {
@@ -251,7 +436,7 @@ const LINKS: &[Row] = &[
         asked: &[CONNECT, SETUP, READ, READ],
         answered: &[CONFIRM, GRANTED, NO_LINK, NO_LINK],
         asked_far: &[CONNECT, FAR_SETUP, FAR_READ],
-        kept: "AD",
+        kept: &[Got::Asked(true, 0x0002_0000, "-", "-"), Got::Undialled],
     },
     // A write is asked far with its octets.
     Row {
@@ -262,7 +447,7 @@ const LINKS: &[Row] = &[
         asked: &[CONNECT, SETUP, WRITE],
         answered: &[CONFIRM, GRANTED, WRITTEN],
         asked_far: &[CONNECT, FAR_SETUP, FAR_WRITE],
-        kept: "A",
+        kept: &[Got::Asked(true, 0, "FF", "-")],
     },
     // The far code 00 stands near without a transport size.
     Row {
@@ -273,7 +458,7 @@ const LINKS: &[Row] = &[
         asked: &[CONNECT, SETUP, READ],
         answered: &[CONFIRM, GRANTED, READ_ANSWER_00],
         asked_far: &[CONNECT, FAR_SETUP, FAR_READ],
-        kept: "A",
+        kept: &[Got::Asked(true, 0, "00", "-")],
     },
     // An item that no window has doesn't travel, and the far code stands at the place of the item that did.
     Row {
@@ -284,7 +469,7 @@ const LINKS: &[Row] = &[
         asked: &[CONNECT, SETUP, READ_BOTH],
         answered: &[CONFIRM, GRANTED, BOTH_ANSWER],
         asked_far: &[CONNECT, FAR_SETUP, FAR_READ],
-        kept: "A",
+        kept: &[Got::Asked(true, 0, "FF", "11223344")],
     },
     // What asks for no item of a window doesn't dial.
     Row {
@@ -295,7 +480,7 @@ const LINKS: &[Row] = &[
         asked: &[CONNECT, SETUP, READ_2, STOP],
         answered: &[CONFIRM, GRANTED, READ_2_ANSWER, NO_FUNCTION],
         asked_far: &[],
-        kept: "NN",
+        kept: &[Got::Near, Got::Near],
     },
     // There is no far server.
     Row {
@@ -306,7 +491,7 @@ const LINKS: &[Row] = &[
         asked: &[CONNECT, SETUP, READ],
         answered: &[CONFIRM, GRANTED, NO_LINK],
         asked_far: &[],
-        kept: "D",
+        kept: &[Got::Undialled],
     },
     // The far link ends before the connect is confirmed.
     Row {
@@ -317,7 +502,7 @@ const LINKS: &[Row] = &[
         asked: &[CONNECT, SETUP, READ],
         answered: &[CONFIRM, GRANTED, NO_LINK],
         asked_far: &[CONNECT],
-        kept: "C",
+        kept: &[Got::Unconnected(0x0002_0000)],
     },
     // The far link fails in its first call, and isn't ready in any of 50 polls.
     Row {
@@ -328,7 +513,7 @@ const LINKS: &[Row] = &[
         asked: &[CONNECT, SETUP, READ],
         answered: &[CONFIRM, GRANTED, NO_LINK],
         asked_far: &[],
-        kept: "C",
+        kept: &[Got::Unconnected(0x0009_0000)],
     },
     Row {
         windows: WINDOWS,
@@ -338,7 +523,7 @@ const LINKS: &[Row] = &[
         asked: &[CONNECT, SETUP, READ],
         answered: &[CONFIRM, GRANTED, NO_ANSWER],
         asked_far: &[],
-        kept: "C",
+        kept: &[Got::Unconnected(0x0200_0000)],
     },
     // The far server grants a PDU of 64, for which the read is short enough.
     Row {
@@ -349,7 +534,7 @@ const LINKS: &[Row] = &[
         asked: &[CONNECT, SETUP, READ],
         answered: &[CONFIRM, GRANTED, READ_ANSWER],
         asked_far: &[CONNECT, FAR_SETUP, FAR_READ],
-        kept: "A",
+        kept: &[Got::Asked(true, 0, "FF", "11223344")],
     },
     // A read whose answer is longer than the PDU that the far server grants isn't asked.
     Row {
@@ -360,7 +545,7 @@ const LINKS: &[Row] = &[
         asked: &[CONNECT, SETUP, READ_60],
         answered: &[CONFIRM, GRANTED, TOO_LONG],
         asked_far: &[CONNECT, FAR_SETUP],
-        kept: "P",
+        kept: &[Got::Unpacked],
     },
     // The far answer has another sequence.
     Row {
@@ -371,7 +556,7 @@ const LINKS: &[Row] = &[
         asked: &[CONNECT, SETUP, READ],
         answered: &[CONFIRM, GRANTED, FAR_FAULT],
         asked_far: &[CONNECT, FAR_SETUP, FAR_READ],
-        kept: "A",
+        kept: &[Got::Asked(true, 0x0080_0000, "-", "-")],
     },
     // A far answer in 64 fragments is read, and the 65th fragment is a fault.
     Row {
@@ -382,7 +567,7 @@ const LINKS: &[Row] = &[
         asked: &[CONNECT, SETUP, READ],
         answered: &[CONFIRM, GRANTED, READ_ANSWER],
         asked_far: &[CONNECT, FAR_SETUP, FAR_READ],
-        kept: "A",
+        kept: &[Got::Asked(true, 0, "FF", "11223344")],
     },
     Row {
         windows: WINDOWS,
@@ -392,7 +577,7 @@ const LINKS: &[Row] = &[
         asked: &[CONNECT, SETUP, READ],
         answered: &[CONFIRM, GRANTED, FAR_FAULT],
         asked_far: &[CONNECT, FAR_SETUP, FAR_READ],
-        kept: "A",
+        kept: &[Got::Asked(true, 0x0007_0000, "-", "-")],
     },
     // Two near areas are far parts that share octets.
     Row {
@@ -403,7 +588,7 @@ const LINKS: &[Row] = &[
         asked: &[CONNECT, SETUP, READ_SHARED],
         answered: &[CONFIRM, GRANTED, SHARED_ANSWER],
         asked_far: &[CONNECT, FAR_SETUP, FAR_READ_SHARED],
-        kept: "A",
+        kept: &[Got::Asked(true, 0, "FFFF", "1122334433445566")],
     },
     // Every other one of twenty items travels. The last far item is the last near one, and isn't padded.
     Row {
@@ -414,7 +599,7 @@ const LINKS: &[Row] = &[
         asked: &[CONNECT, LONG_SETUP, READ_20],
         answered: &[CONFIRM, LONG_GRANTED, ANSWER_20],
         asked_far: &[CONNECT, FAR_SETUP, FAR_READ_10],
-        kept: "A",
+        kept: &[Got::Asked(true, 0, "FF*10", "AA*10")],
     },
     // A write that would need two telegrams isn't asked.
     Row {
@@ -425,7 +610,7 @@ const LINKS: &[Row] = &[
         asked: &[CONNECT, SETUP, WRITE_TWO],
         answered: &[CONFIRM, GRANTED, WRITE_TOO_LONG],
         asked_far: &[CONNECT, FAR_SETUP],
-        kept: "P",
+        kept: &[Got::Unpacked],
     },
     // The far server refuses the negotiation.
     Row {
@@ -436,7 +621,7 @@ const LINKS: &[Row] = &[
         asked: &[CONNECT, SETUP, READ],
         answered: &[CONFIRM, GRANTED, FAR_FAULT],
         asked_far: &[CONNECT, FAR_SETUP],
-        kept: "C",
+        kept: &[Got::Unconnected(0x0010_0000)],
     },
     // No more is kept than the limit.
     Row {
@@ -447,7 +632,7 @@ const LINKS: &[Row] = &[
         asked: &[CONNECT, SETUP, READ, READ],
         answered: &[CONFIRM, GRANTED, READ_ANSWER, READ_FULL],
         asked_far: &[CONNECT, FAR_SETUP, FAR_READ],
-        kept: "A",
+        kept: &[Got::Asked(true, 0, "FF", "11223344")],
     },
 ];
 
