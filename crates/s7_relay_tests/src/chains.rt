@@ -11,7 +11,7 @@ use std::test::Fail;
 use std::thread::{Threads, join};
 use std::time::Clock;
 
-/// The texts of files by their paths. The first seven are those of `examples/`.
+/// The texts of files by their paths. The first nine are those of `examples/`.
 const FILES: &[(&str, &str)] = &[
     ("reader.script", "read DB1 byte 0 4\n"),
     ("writer.script", "write DB1 byte 0 aabbccdd\n"),
@@ -20,6 +20,8 @@ const FILES: &[(&str, &str)] = &[
     ("drive.script", DRIVE),
     ("drive.tags", DRIVE_TAGS),
     ("plant.areas", PLANT),
+    ("panel.script", PANEL),
+    ("panel.windows", PANEL_WINDOWS),
     ("moved.areas", MOVED),
     (
         "again.script",
@@ -47,6 +49,14 @@ const PLANT: &str = "s7 areas 2\n\
     # flags, and two data blocks: a recipe of 8 octets, and a log of 1,024 octets 00\n\
     MK 4\n00000000\nDB 1 8\n1122334455667788\nDB 2 1024\n1024*00\n";
 
+const PANEL: &str =
+    "# what a panel reads, and what it notes\nread DB1 byte 0 4\nwrite DB10 byte 0 cafe\n\
+    read DB10 byte 0 4\n# no window has the flags\nread MK byte 0 4\n";
+
+const PANEL_WINDOWS: &str =
+    "# what a panel sees of plant.areas: the middle of the recipe, and the head of the log\n\
+    DB1 4 = DB1 2\nDB10 16 = DB2 0\n";
+
 /// The plant's areas inside others: the flags from octet 2 on, the recipe from octet 3 on.
 const MOVED: &str =
     "s7 areas 2\nMK 6\nffff00000000\nDB 7 12\nffffff1122334455667788ff\nDB 9 1024\n1024*00\n";
@@ -69,6 +79,10 @@ const DRIVE_RESULTS: &str = "0 connect 00000000 -\n1 get 00000000 -2\n2 get 0000
 const BLOCKS_RESULTS: &str = "0 connect 00000000 -\n2 download 00000000 -\n\
     3 upload 00000000 70700101050c000500000026000000000000000000000000000000000000000000000002aabb\n\
     4 delete 00000000 -\n";
+
+/// The last read is of an area that no window has, and isn't asked.
+const PANEL_RESULTS: &str = "0 connect 00000000 -\n2 read 00000000 33445566\n3 write 00000000 -\n\
+    4 read 00000000 cafe0000\n6 read 00C00000 -\n";
 
 /// A relay has no blocks, and asks nothing.
 const BLOCKS_REFUSED: &str =
@@ -218,6 +232,17 @@ const ROWS: &[Row] = &[
         results: BLOCKS_REFUSED,
         relayed: "link 1 ended entries 3\njournal 3\n",
         served: "",
+    },
+    Row {
+        way: Way::Relayed,
+        words: &["run", "panel.script"],
+        areas: "plant.areas",
+        windows: PANEL_WINDOWS,
+        starts: 1,
+        status: 6,
+        results: PANEL_RESULTS,
+        relayed: "link 1 ended entries 4\njournal 4\n",
+        served: "link 1 ended entries 3\njournal 3\n",
     },
     Row {
         way: Way::Lost,

@@ -60,10 +60,9 @@ fn a_dial(alloc: Global, row: &Row) -> Option<MemoryDial<MemoryLink>> {
 }
 
 /// A file `w.txt` of this text.
-fn a_file(alloc: Global, text: &str) -> Option<MemoryFiles> {
+fn a_file(alloc: Global, text: Vec<u8>) -> Option<MemoryFiles> {
     let mut files = MemoryFiles::new();
-    let text = Octets::copy_of(alloc, text.as_bytes()).ok()?;
-    files.insert(alloc, "w.txt", text).ok()?;
+    files.insert(alloc, "w.txt", Octets::of_vec(text)).ok()?;
     Some(files)
 }
 
@@ -94,7 +93,13 @@ fn count_of(end: &End) -> Option<usize> {
 
 /// A row goes as it says.
 fn goes<R: Wait + Clock>(rt: &R, alloc: Global, row: &Row) -> Option<bool> {
-    let mut files = a_file(alloc, row.windows)?;
+    let text = row.windows.as_bytes().to_vec(alloc).ok()?;
+    goes_over(rt, alloc, row, text)
+}
+
+/// A row goes as it says if its windows file has this text.
+fn goes_over<R: Wait + Clock>(rt: &R, alloc: Global, row: &Row, text: Vec<u8>) -> Option<bool> {
+    let mut files = a_file(alloc, text)?;
     let pipe = a_link(alloc, row.near)?;
     let dial = a_dial(alloc, row)?;
     let mut out = MemoryOut::new(alloc, row.room).ok()?;
@@ -220,6 +225,43 @@ const ROWS: &[Row] = &[
     },
 ];
 
+/// The row of a windows file that is read.
+const READ_WHOLE: Row = Row {
+    words: WORDS,
+    windows: "",
+    near: &[],
+    far: None,
+    room: ROOM,
+    status: 0,
+    prints: "link 1 ended entries 0\njournal 0\n",
+    answered: &[],
+    asked_far: &[],
+    kept: Some(0),
+};
+
+/// The row of a windows file that is too long.
+const TOO_LONG: Row = Row {
+    words: WORDS,
+    windows: "",
+    near: &[CONNECT, SETUP, READ],
+    far: None,
+    room: ROOM,
+    status: 2,
+    prints: "windows too long\n",
+    answered: &[],
+    asked_far: &[],
+    kept: None,
+};
+
+/// The rows of windows files that have nothing but a comment of this length.
+const LENGTHS: &[(usize, Row)] = &[(67_108_864, READ_WHOLE), (67_108_865, TOO_LONG)];
+
+/// A windows file of a comment of this length goes as the row says.
+fn comment_goes<R: Wait + Clock>(rt: &R, alloc: Global, row: &(usize, Row)) -> Option<bool> {
+    let text = vec![in alloc; b'#'; row.0].ok()?;
+    goes_over(rt, alloc, &row.1, text)
+}
+
 /// Words that are usage.
 const USAGES: &[&[&str]] = &[
     &[],
@@ -262,6 +304,16 @@ fn other_words_are_usage(rt: HostRuntime) -> Result<(), Fail> {
     for (number, words) in USAGES.iter().enumerate() {
         if !goes(&rt, rt.alloc(), &usage(words)).unwrap_or(false) {
             return Err(Fail::from(("words", number)));
+        }
+    }
+    Ok(())
+}
+
+#[test]
+fn long_windows_are_read_up_to_a_limit(rt: HostRuntime) -> Result<(), Fail> {
+    for (number, row) in LENGTHS.iter().enumerate() {
+        if !comment_goes(&rt, rt.alloc(), row).unwrap_or(false) {
+            return Err(Fail::from(("length", number)));
         }
     }
     Ok(())
