@@ -225,20 +225,6 @@ const ROWS: &[Row] = &[
     },
 ];
 
-/// The row of a windows file that is read.
-const READ_WHOLE: Row = Row {
-    words: WORDS,
-    windows: "",
-    near: &[],
-    far: None,
-    room: ROOM,
-    status: 0,
-    prints: "link 1 ended entries 0\njournal 0\n",
-    answered: &[],
-    asked_far: &[],
-    kept: Some(0),
-};
-
 /// The row of a windows file that is too long.
 const TOO_LONG: Row = Row {
     words: WORDS,
@@ -253,13 +239,13 @@ const TOO_LONG: Row = Row {
     kept: None,
 };
 
-/// The rows of windows files that have nothing but a comment of this length.
-const LENGTHS: &[(usize, Row)] = &[(67_108_864, READ_WHOLE), (67_108_865, TOO_LONG)];
+/// The length of a windows file that is too long by one octet.
+const TOO_MANY: usize = 67_108_865;
 
-/// A windows file of a comment of this length goes as the row says.
-fn comment_goes<R: Wait + Clock>(rt: &R, alloc: Global, row: &(usize, Row)) -> Option<bool> {
-    let text = vec![in alloc; b'#'; row.0].ok()?;
-    goes_over(rt, alloc, &row.1, text)
+/// A windows file that is a comment of this length is refused.
+fn is_too_long<R: Wait + Clock>(rt: &R, alloc: Global, len: usize) -> Option<bool> {
+    let text = vec![in alloc; b'#'; len].ok()?;
+    goes_over(rt, alloc, &TOO_LONG, text)
 }
 
 /// Words that are usage.
@@ -310,11 +296,6 @@ fn other_words_are_usage(rt: HostRuntime) -> Result<(), Fail> {
 }
 
 #[test]
-fn long_windows_are_read_up_to_a_limit(rt: HostRuntime) -> Result<(), Fail> {
-    for (number, row) in LENGTHS.iter().enumerate() {
-        if !comment_goes(&rt, rt.alloc(), row).unwrap_or(false) {
-            return Err(Fail::from(("length", number)));
-        }
-    }
-    Ok(())
+fn long_windows_are_refused(rt: HostRuntime) {
+    assert!(rt; is_too_long(&rt, rt.alloc(), TOO_MANY) == Some(true));
 }
