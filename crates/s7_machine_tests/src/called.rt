@@ -6,9 +6,9 @@ ghost use Rattle.std.specs.List.{AllByRecursion};
 ghost use Rattle.s7_plant.specs.Observers.{IsFresh};
 
 use crate::callers::{Callers, Told, come_to};
-use crate::line::{Doorway, Line, listen_from, next};
+use crate::line::{Doorway, Line, listen_from, new_door, next};
 use s7_memory::{HoldGate, MemoryFiles, MemoryOut};
-use s7_os::{RealLink, TcpDoor};
+use s7_os::RealLink;
 use s7_outer::{Arrival, Door, DoorFailed, Octets};
 use s7_plant::{Entry, Tail};
 use s7_server_main::{Run, ServerEnd, server_main};
@@ -93,27 +93,62 @@ pub(crate) struct Left {
     pub(crate) gave_up: bool,
 }
 
-/// An area file without an area: a first line, and a comment that fills it to this length.
-fn long_areas(alloc: Global, count: usize) -> Option<Vec<u8>> {
-    let mut text = Vec::from_slice(alloc, b"s7 areas 1\n").ok()?;
-    let comment = vec![in alloc; b'#'; 65_536].ok()?;
+/// A part of a comment.
+fn a_comment(alloc: Global) -> Option<Vec<u8>> {
+    vec![in alloc; b'#'; 65_536].ok()
+}
+
+/// Fills a text to this length by a comment. Reports whether memory is left for it.
+fn is_filled(text: &mut Vec<u8>, comment: &[u8], count: usize) -> bool {
     for _ in 0..=count / 65_536 {
-        text.extend_from_slice(comment.as_slice()).ok()?;
+        if text.extend_from_slice(comment).is_err() {
+            return false;
+        }
     }
     text.truncate(count);
-    Some(text)
+    true
+}
+
+/// An area file without an area: a first line, and a comment that fills it to this length.
+fn long_areas(alloc: Global, count: usize) -> Option<Vec<u8>> {
+    let mut text = copy_of(alloc, b"s7 areas 1\n")?;
+    if is_filled(&mut text, a_comment(alloc)?.as_slice(), count) {
+        Some(text)
+    } else {
+        None
+    }
+}
+
+/// A copy of a text.
+fn copy_of(alloc: Global, text: &[u8]) -> Option<Vec<u8>> {
+    Vec::from_slice(alloc, text).ok()
+}
+
+/// The text of an area file.
+fn text_of(alloc: Global, areas: &AreaFile) -> Option<Vec<u8>> {
+    match areas {
+        AreaFile::Nothing => None,
+        AreaFile::Text(text) => copy_of(alloc, text),
+        AreaFile::Long(count) => long_areas(alloc, *count),
+    }
+}
+
+/// Inserts the area file. Reports whether memory is left for it.
+fn inserts(files: &mut MemoryFiles, alloc: Global, text: Option<Vec<u8>>) -> bool {
+    match text {
+        Some(text) => files.insert(alloc, "a.txt", Octets::of_vec(text)).is_ok(),
+        None => false,
+    }
 }
 
 /// The files of a call.
 fn files(alloc: Global, areas: &AreaFile) -> Option<MemoryFiles> {
     let mut files = MemoryFiles::new();
-    let text = match areas {
-        AreaFile::Nothing => return Some(files),
-        AreaFile::Text(text) => Vec::from_slice(alloc, text).ok()?,
-        AreaFile::Long(count) => long_areas(alloc, *count)?,
-    };
-    files.insert(alloc, "a.txt", Octets::of_vec(text)).ok()?;
-    Some(files)
+    if matches!(areas, AreaFile::Nothing) || inserts(&mut files, alloc, text_of(alloc, areas)) {
+        Some(files)
+    } else {
+        None
+    }
 }
 
 /// A link over the standard streams.
@@ -129,7 +164,7 @@ fn an_output(alloc: Global) -> Option<MemoryOut> {
 /// A door that reports its port.
 fn a_door(host: HostRuntime, told: &Told) -> TellingDoor<'_> {
     TellingDoor {
-        door: TcpDoor::new(host),
+        door: new_door(&host),
         told,
         port: 0,
         listens: 0,
@@ -163,23 +198,32 @@ fn serve<R: Threads + Wait + Clock + Sync>(
     Some(server_main(rt, alloc, words, files, pipe, door, gate, out, tails))
 }
 
-/// The state after a server, without what came to its callers.
-fn left_by<R: Threads + Wait + Clock + Sync>(
+/// The outcome of a call, over these objects and a new door.
+fn end_of<R: Threads + Wait + Clock + Sync>(
     rt: &R,
     host: HostRuntime,
     told: &Told,
     call: &Call,
-) -> Option<Left> {
-    let alloc = host.alloc();
-    let mut files = files(alloc, &call.areas)?;
+    files: &mut MemoryFiles,
+    gate: &HoldGate,
+    out: &mut MemoryOut,
+) -> Option<ServerEnd<Line, Tail>> {
     let pipe = a_pipe(host)?;
-    let mut out = an_output(alloc)?;
     let mut door = a_door(host, told);
-    let gate = HoldGate::new(call.kept, call.until, 1_000_000_000);
-    let ServerEnd { status, run, .. } = serve(
-        rt, alloc, call.words, call.mask, &mut files, pipe, &mut door, &gate, &mut out,
-    )?;
-    let gave_up = gate.gave_up();
+    let alloc = host.alloc();
+    serve(
+        rt, alloc, call.words, call.mask, files, pipe, &mut door, gate, out,
+    )
+}
+
+/// The state after a server with this outcome.
+fn left_of(
+    alloc: Global,
+    end: Option<ServerEnd<Line, Tail>>,
+    out: MemoryOut,
+    gave_up: bool,
+) -> Option<Left> {
+    let ServerEnd { status, run, .. } = end?;
     Some(Left {
         came: Vec::new(alloc),
         status,
@@ -187,6 +231,30 @@ fn left_by<R: Threads + Wait + Clock + Sync>(
         out,
         gave_up,
     })
+}
+
+/// The state after a server over these files, without what came to its callers.
+fn left_over<R: Threads + Wait + Clock + Sync>(
+    rt: &R,
+    host: HostRuntime,
+    told: &Told,
+    call: &Call,
+    files: &mut MemoryFiles,
+) -> Option<Left> {
+    let mut out = an_output(host.alloc())?;
+    let gate = HoldGate::new(call.kept, call.until, 1_000_000_000);
+    let end = end_of(rt, host, told, call, files, &gate, &mut out);
+    left_of(host.alloc(), end, out, gate.gave_up())
+}
+
+/// The state after a server, without what came to its callers.
+fn left_by<R: Threads + Wait + Clock + Sync>(
+    rt: &R,
+    host: HostRuntime,
+    told: &Told,
+    call: &Call,
+) -> Option<Left> {
+    left_over(rt, host, told, call, &mut files(host.alloc(), &call.areas)?)
 }
 
 /// The same. If the server never asked its door to listen, no port is reported.
@@ -201,6 +269,27 @@ fn told_by<R: Threads + Wait + Clock + Sync>(
     left
 }
 
+/// What came to the callers of a server, who call while it serves, and the state after it without that.
+fn both<R: Threads + Wait + Clock + Sync>(
+    rt: &R,
+    host: HostRuntime,
+    told: &Told,
+    call: &Call,
+) -> (Option<Vec<Vec<Octets>>>, Option<Left>) {
+    join(
+        rt,
+        || come_to(rt, host, told, &call.callers),
+        || told_by(rt, host, told, call),
+    )
+}
+
+/// The state after a server, with what came to its callers.
+fn with_came(came: Option<Vec<Vec<Octets>>>, left: Option<Left>) -> Option<Left> {
+    let mut left = left?;
+    left.came = came?;
+    Some(left)
+}
+
 /// The state after a server, and what came to its callers, who call while it serves.
 pub(crate) fn called<R: Threads + Wait + Clock + Sync>(
     rt: &R,
@@ -208,31 +297,30 @@ pub(crate) fn called<R: Threads + Wait + Clock + Sync>(
     call: &Call,
 ) -> Option<Left> {
     let told = OnceLock::new();
-    let told = &told;
-    let (came, left) = join(
-        rt,
-        || come_to(rt, host, told, &call.callers),
-        || told_by(rt, host, told, call),
-    );
-    let mut left = left?;
-    left.came = came?;
-    Some(left)
+    let (came, left) = both(rt, host, &told, call);
+    with_came(came, left)
 }
 
 /// Reports whether this number of links was served, and they made this number of entries together. Each link ended
 /// without a fault, and its entries are those of its number in the journal.
-pub(crate) fn is_whole(left: &Left, links: usize, entries: usize) -> Option<bool> {
-    let run = left.run.as_ref()?;
-    let journal = run.book.journal.as_slice();
+pub(crate) fn is_whole(left: &Left, links: usize, entries: usize) -> bool {
+    match &left.run {
+        Some(run) => is_run_whole(run, run.book.journal.as_slice(), links, entries),
+        None => false,
+    }
+}
+
+/// Reports the same of a run with this journal.
+fn is_run_whole(run: &Run<Line, Tail>, journal: &[Entry], links: usize, entries: usize) -> bool {
     let mut all = 0usize;
     for served in &run.links {
         let count = count_of(journal, served.link);
         all = all.saturating_add(count);
         if served.outcome != Outcome::Ended || served.entries != count as u64 {
-            return Some(false);
+            return false;
         }
     }
-    Some(all == entries && journal.len() == entries && run.links.len() == links && !run.door_failed)
+    all == entries && journal.len() == entries && run.links.len() == links && !run.door_failed
 }
 
 /// The number of entries of a link.

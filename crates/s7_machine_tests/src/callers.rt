@@ -3,9 +3,9 @@ ghost use Rattle.std.specs.Prelude.{◌≡◌, None, IfOk};
 ghost use Rattle.s7_client.specs.Completions.{connection_of};
 ghost use Rattle.s7_client.specs.Polling.{job_of};
 
-use crate::line::{Line, ask, call_here, receive, rest_of, takes};
+use crate::line::{Line, ask, call_here, late_answer, rest_of, takes};
 use crate::shared::telegrams_of;
-use crate::telegrams::{CONNECT, READ, SETUP, joined, packets};
+use crate::telegrams::{CONNECT, READ, SETUP, appends, joined, packets};
 use s7_client::{Client, Config, Counter, Job, JobResult};
 use s7_item::Item;
 use s7_item::codes::{BYTE, DATA_BLOCKS};
@@ -58,48 +58,98 @@ pub(crate) fn come_to<R: Threads + Wait + Sync>(
     }
 }
 
+/// Carries out what one caller does. Reports whether it goes on to the end. The octets that came are appended.
+fn calls(host: HostRuntime, port: u16, callers: &Callers, came: &mut Vec<Octets>) -> bool {
+    match callers {
+        Callers::AtOnce(asks) => at_once(host, port, asks, came),
+        Callers::Ends(last) => one_ends(host, port, last, came),
+        Callers::Resets => resets(host, port),
+        Callers::Reads => appends(came, read_by_client(host, port)),
+        Callers::Nobody | Callers::ComeAndGo | Callers::Share => true,
+    }
+}
+
 /// What came to one caller.
 fn alone(host: HostRuntime, port: u16, callers: &Callers) -> Option<Vec<Vec<Octets>>> {
     let mut came = Vec::new(host.alloc());
-    match callers {
-        Callers::AtOnce(asks) => at_once(host, port, asks, &mut came)?,
-        Callers::Ends(last) => one_ends(host, port, last, &mut came)?,
-        Callers::Resets => resets(host, port)?,
-        Callers::Reads => came.push(read_by_client(host, port)?).ok()?,
-        Callers::Nobody | Callers::ComeAndGo | Callers::Share => {}
+    if calls(host, port, callers, &mut came) {
+        only(host.alloc(), came)
+    } else {
+        None
     }
-    let mut all = Vec::new(host.alloc());
-    all.push(came).ok()?;
-    Some(all)
 }
 
-/// A link that sent these telegrams by one call.
-fn opened(host: HostRuntime, port: u16, telegrams: &[&[u8]]) -> Option<Line> {
-    let octets = joined(host.alloc(), telegrams)?;
+/// What came to callers, of whom there is one.
+fn only(alloc: Global, came: Vec<Octets>) -> Option<Vec<Vec<Octets>>> {
+    let mut all = Vec::new(alloc);
+    match all.push(came) {
+        Ok(()) => Some(all),
+        Err(_) => None,
+    }
+}
+
+/// A link on which this is sent by one call.
+fn sent(host: HostRuntime, port: u16, octets: &[u8]) -> Option<Line> {
     let mut line = call_here(&host, port)?;
-    if takes(&mut line, octets.as_slice()) {
+    if takes(&mut line, octets) {
         Some(line)
     } else {
         None
     }
 }
 
-/// Links that are opened one after another.
-fn all_opened(host: HostRuntime, port: u16, asks: &[&[&[u8]]]) -> Option<Vec<Line>> {
-    let mut lines = Vec::new(host.alloc());
-    for telegrams in asks {
-        lines.push(opened(host, port, telegrams)?).ok()?;
-    }
-    Some(lines)
+/// A link that sent these telegrams by one call.
+fn opened(host: HostRuntime, port: u16, telegrams: &[&[u8]]) -> Option<Line> {
+    sent(host, port, joined(host.alloc(), telegrams)?.as_slice())
 }
 
-/// Appends the octets that come up to the end of each link.
-fn at_once(host: HostRuntime, port: u16, asks: &[&[&[u8]]], came: &mut Vec<Octets>) -> Option<()> {
-    let mut lines = all_opened(host, port, asks)?;
-    for line in lines.as_mut_slice() {
-        came.push(rest_of(host.alloc(), line)?).ok()?;
+/// Appends a link. Reports whether it is there, and memory is left for it.
+fn appends_link(lines: &mut Vec<Line>, line: Option<Line>) -> bool {
+    match line {
+        Some(line) => lines.push(line).is_ok(),
+        None => false,
     }
-    Some(())
+}
+
+/// Opens links one after another, and appends them. Reports whether all are opened.
+fn opens_all(host: HostRuntime, port: u16, asks: &[&[&[u8]]], lines: &mut Vec<Line>) -> bool {
+    for telegrams in asks {
+        if !appends_link(lines, opened(host, port, telegrams)) {
+            return false;
+        }
+    }
+    true
+}
+
+/// Appends the octets that come up to the end of each link. Reports whether each end comes.
+fn ends_all(alloc: Global, lines: &mut [Line], came: &mut Vec<Octets>) -> bool {
+    for line in lines {
+        if !appends(came, rest_of(alloc, line)) {
+            return false;
+        }
+    }
+    true
+}
+
+/// Opens links, and appends the octets that come up to the end of each. Reports whether each end comes.
+fn at_once(host: HostRuntime, port: u16, asks: &[&[&[u8]]], came: &mut Vec<Octets>) -> bool {
+    let mut lines = Vec::new(host.alloc());
+    opens_all(host, port, asks, &mut lines) && ends_all(host.alloc(), lines.as_mut_slice(), came)
+}
+
+/// Asks with each telegram, and appends the answers. Reports whether all are answered.
+fn asks_all(
+    alloc: Global,
+    line: &mut Line,
+    telegrams: &[Octets],
+    answers: &mut Vec<Octets>,
+) -> bool {
+    for telegram in telegrams {
+        if !appends(answers, ask(alloc, line, telegram.as_slice())) {
+            return false;
+        }
+    }
+    true
 }
 
 /// A link on which each telegram is answered. The answers are appended.
@@ -110,40 +160,66 @@ fn a_link(
     answers: &mut Vec<Octets>,
 ) -> Option<Line> {
     let mut line = call_here(&host, port)?;
-    for telegram in telegrams {
-        answers
-            .push(ask(host.alloc(), &mut line, telegram.as_slice())?)
-            .ok()?;
+    if asks_all(host.alloc(), &mut line, telegrams, answers) {
+        Some(line)
+    } else {
+        None
     }
-    Some(line)
+}
+
+/// Ends the first link by the octets that it sends, while the second one is still served, which reads after that. The
+/// octets that came at the end of the first are appended last.
+fn ends_first(
+    alloc: Global,
+    first: &mut Line,
+    second: &mut Line,
+    last: &[u8],
+    came: &mut Vec<Octets>,
+) -> bool {
+    takes(first, last) && appends_both(came, rest_of(alloc, first), ask(alloc, second, READ))
+}
+
+/// Appends an answer, and the octets that came before it. Reports whether both are there, and memory is left for them.
+fn appends_both(came: &mut Vec<Octets>, rest: Option<Octets>, answer: Option<Octets>) -> bool {
+    appends(came, answer) && appends(came, rest)
+}
+
+/// The same, once the first link is negotiated. The second one is negotiated before the first ends.
+fn ends_beside(
+    host: HostRuntime,
+    port: u16,
+    opening: &[Octets],
+    last: &[u8],
+    came: &mut Vec<Octets>,
+) -> Option<bool> {
+    let mut first = a_link(host, port, opening, came)?;
+    let mut second = a_link(host, port, opening, came)?;
+    Some(ends_first(host.alloc(), &mut first, &mut second, last, came))
 }
 
 /// Opens two links, of which the first ends by the octets that it sends, while the second is still served. The octets
 /// that came at the end of the first are appended last.
-fn one_ends(host: HostRuntime, port: u16, last: &[u8], came: &mut Vec<Octets>) -> Option<()> {
-    let opening = packets(host.alloc(), &[CONNECT, SETUP])?;
-    let mut first = a_link(host, port, opening.as_slice(), came)?;
-    let mut second = a_link(host, port, opening.as_slice(), came)?;
-    if !takes(&mut first, last) {
-        return None;
+fn one_ends(host: HostRuntime, port: u16, last: &[u8], came: &mut Vec<Octets>) -> bool {
+    match packets(host.alloc(), &[CONNECT, SETUP]) {
+        Some(opening) => ends_beside(host, port, opening.as_slice(), last, came) == Some(true),
+        None => false,
     }
-    let rest = rest_of(host.alloc(), &mut first)?;
-    came.push(ask(host.alloc(), &mut second, READ)?).ok()?;
-    came.push(rest).ok()
 }
 
-/// An octet comes on a link that sent a connect request.
-fn resets(host: HostRuntime, port: u16) -> Option<()> {
-    let mut line = opened(host, port, &[CONNECT])?;
-    let mut came = Vec::new(host.alloc());
-    for _ in 0..100u32 {
-        match receive(&mut line, 1, &mut came) {
-            Got::Bytes(_) => return Some(()),
-            Got::NotYet => {}
-            Got::End | Got::Failed => return None,
-        }
+/// Reports whether an octet comes on a link.
+fn gets_one(alloc: Global, line: &mut Line) -> bool {
+    matches!(
+        late_answer(line, 1, 100, &mut Vec::new(alloc)),
+        Got::Bytes(_)
+    )
+}
+
+/// Reports whether an octet comes on a link that sent a connect request.
+fn resets(host: HostRuntime, port: u16) -> bool {
+    match opened(host, port, &[CONNECT]) {
+        Some(mut line) => gets_one(host.alloc(), &mut line),
+        None => false,
     }
-    None
 }
 
 /// The telegrams that a caller sends on each of its links. A caller of one link writes data blocks.
@@ -155,17 +231,36 @@ fn telegrams(alloc: Global, links: u8, number: u8) -> Option<Vec<Octets>> {
     }
 }
 
-/// The answers that came to a caller, whose links are opened one after another. A link with a fault does not keep the
-/// next one from being opened, since the server waits for all of them.
+/// Opens links one after another, which send these telegrams. The answers are appended. A link with a fault does not
+/// keep the next one from being opened, since the server waits for all of them.
+fn call_on(
+    host: HostRuntime,
+    port: u16,
+    links: u8,
+    telegrams: &[Octets],
+    answers: &mut Vec<Octets>,
+) {
+    for _ in 0..links {
+        drop(a_link(host, port, telegrams, answers));
+    }
+}
+
+/// The answers that came to a caller, whose links are opened one after another.
 fn answers_to(host: HostRuntime, port: u16, links: u8, number: u8) -> Vec<Octets> {
     let mut answers = Vec::new(host.alloc());
-    let Some(telegrams) = telegrams(host.alloc(), links, number) else {
-        return answers;
-    };
-    for _ in 0..links {
-        drop(a_link(host, port, telegrams.as_slice(), &mut answers));
+    if let Some(telegrams) = telegrams(host.alloc(), links, number) {
+        call_on(host, port, links, telegrams.as_slice(), &mut answers);
     }
     answers
+}
+
+/// The numbers from 1 to this one.
+fn numbers(alloc: Global, last: u8) -> Option<Vec<u8>> {
+    let mut numbers = Vec::new(alloc);
+    for number in 1..=last {
+        numbers.push(number).ok()?;
+    }
+    Some(numbers)
 }
 
 /// The answers that came to callers that call at the same time.
@@ -176,13 +271,9 @@ fn many<R: Threads + Sync>(
     callers: u8,
     links: u8,
 ) -> Option<Vec<Vec<Octets>>> {
-    let mut numbers = Vec::new(host.alloc());
-    for number in 1..=callers {
-        numbers.push(number).ok()?;
-    }
     map_vec(
         rt,
-        numbers,
+        numbers(host.alloc(), callers)?,
         &|number: u8| answers_to(host, port, links, number),
     )
     .ok()
@@ -213,6 +304,20 @@ fn done(alloc: Global, client: &mut Client<Counter>, job: Job, line: &mut Line) 
 }
 
 /// The octets of a job's result. There are none if its code isn't 0.
+fn good_octets(told: Option<JobResult>) -> Option<Octets> {
+    match told {
+        Some(
+            JobResult {
+                code: 0,
+                octets,
+                ..
+            },
+        ) => Some(octets),
+        _ => None,
+    }
+}
+
+/// The octets of a job's result. There are none if its code isn't 0.
 fn octets_of(
     alloc: Global,
     client: &mut Client<Counter>,
@@ -222,12 +327,7 @@ fn octets_of(
     requires { job_of (connection_of client.old) ≡ None }
     ensures { job_of (connection_of client.new) ≡ None }
 {
-    let told = done(alloc, client, job, line)?;
-    if told.code == 0 {
-        Some(told.octets)
-    } else {
-        None
-    }
+    good_octets(done(alloc, client, job, line))
 }
 
 /// Reports whether a job succeeds.

@@ -1,6 +1,8 @@
 //! How the links of callers that come and go are answered.
 use crate::called::Left;
+use crate::line::Line;
 use crate::telegrams::{ANSWER, CONFIRM, GRANTED, NO_ROOM, are};
+use s7_listener::Served;
 use s7_outer::Octets;
 
 /// The number of links that were opened, of reads that were answered with the data, and of reads that were refused.
@@ -57,20 +59,34 @@ fn answers_in(came: &[Vec<Octets>]) -> Option<Answers> {
 }
 
 /// Reports whether the links have the numbers from 1 on.
-fn are_numbered(left: &Left) -> Option<bool> {
+fn are_in_order(links: &[Served<Line>]) -> bool {
     let mut link = 0u32;
-    for served in &left.run.as_ref()?.links {
+    for served in links {
         link = link.saturating_add(1);
         if served.link != link {
-            return Some(false);
+            return false;
         }
     }
-    Some(true)
+    true
+}
+
+/// Reports whether the links of a server have the numbers from 1 on.
+fn are_numbered(left: &Left) -> bool {
+    match &left.run {
+        Some(run) => are_in_order(run.links.as_slice()),
+        None => false,
+    }
+}
+
+/// Reports whether all links were opened, and these numbers of reads were answered with the data and refused.
+fn are_counted(came: &[Vec<Octets>], read: usize, refused: usize) -> bool {
+    match answers_in(came) {
+        Some(all) => all.opened == 200 && all.read == read && all.refused == refused,
+        None => false,
+    }
 }
 
 /// Reports whether all links were opened and ended, and these numbers of reads were answered with the data and refused.
-pub(crate) fn are_answered(left: &Left, read: usize, refused: usize) -> Option<bool> {
-    let all = answers_in(left.came.as_slice())?;
-    let are_counted = all.opened == 200 && all.read == read && all.refused == refused;
-    Some(are_counted && are_numbered(left)?)
+pub(crate) fn are_answered(left: &Left, read: usize, refused: usize) -> bool {
+    are_counted(left.came.as_slice(), read, refused) && are_numbered(left)
 }

@@ -3,6 +3,7 @@
 //!
 //! Only `host` calls `serve_door`, since each function that calls it is costly to prove.
 use crate::books::{a_book, a_link, is_answered};
+use crate::rows::all_hold;
 use crate::telegrams::{ANSWER, CONFIRM, CONNECT, GRANTED, READ, SETUP, joined};
 use crate::watched::{WatchedDoor, WatchedLink};
 use s7_listener::{Hosted, NotHosted, Served, serve_door};
@@ -24,12 +25,13 @@ type Doorway = WatchedDoor<MemoryDoor<Line>>;
 /// number of links that are served.
 type Coming = (usize, usize, Option<usize>, u16);
 
-/// Rows: the links of a door, the link that a gate delays at its first request and the link whose second request
+/// The links of a door, the link that a gate delays at its first request and the link whose second request
 /// releases it (0 for none), and the number of links that are served and whether the door failed. Nothing is left if no
 /// link is served.
-///
-/// No order in which one link is served after the other releases both links of the last two rows.
-const DOORS: &[(Coming, (u32, u32), Option<(usize, bool)>)] = &[
+type Row = (Coming, (u32, u32), Option<(usize, bool)>);
+
+/// The rows. No order in which one link is served after the other releases both links of the last two.
+const DOORS: &[Row] = &[
     ((2, 2, Some(0), 2), (0, 0), None),
     ((2, 2, Some(1), 2), (0, 0), Some((1, true))),
     ((2, 2, Some(2), 2), (0, 0), Some((2, false))),
@@ -84,24 +86,65 @@ fn answers_of(reads: usize) -> &'static [&'static [u8]] {
     }
 }
 
-/// A door of links that each read `reads` times.
-fn a_door(alloc: Global, count: usize, reads: usize, fail_at: Option<usize>) -> Option<Doorway> {
-    let mut links = Vec::new(alloc);
-    for _ in 0..count {
-        let link = WatchedLink {
-            link: a_link(alloc, asks_of(reads))?,
-            is_shut: false,
-            late: 0,
-        };
-        links.push(link).ok()?;
+/// Appends a link. Reports whether it is there, and memory is left for it.
+fn appends(links: &mut Vec<Line>, link: Option<MemoryLink>) -> bool {
+    match link {
+        Some(link) => {
+            let line = WatchedLink {
+                link,
+                is_shut: false,
+                late: 0,
+            };
+            links.push(line).is_ok()
+        }
+        None => false,
     }
-    Some(WatchedDoor {
+}
+
+/// Appends this number of links that each read `reads` times. Reports whether memory is left for them.
+fn appends_all(alloc: Global, links: &mut Vec<Line>, count: usize, reads: usize) -> bool {
+    for _ in 0..count {
+        if !appends(links, a_link(alloc, asks_of(reads))) {
+            return false;
+        }
+    }
+    true
+}
+
+/// A door of these links.
+fn door_of(links: Vec<Line>, fail_at: Option<usize>) -> Doorway {
+    WatchedDoor {
         door: MemoryDoor::new(links, fail_at),
         listens: 0,
         port: 0,
         is_over: false,
         late: 0,
-    })
+    }
+}
+
+/// A door of links that each read `reads` times.
+fn a_door(alloc: Global, count: usize, reads: usize, fail_at: Option<usize>) -> Option<Doorway> {
+    let mut links = Vec::new(alloc);
+    if appends_all(alloc, &mut links, count, reads) {
+        Some(door_of(links, fail_at))
+    } else {
+        None
+    }
+}
+
+/// What is left after the links of a door are served, of which a gate delays one. There is nothing if it was delayed for
+/// too long.
+fn served_late<R: Threads + Wait + Clock + Sync>(
+    rt: &R,
+    alloc: Global,
+    door: Doorway,
+    most: u16,
+    gates: &(u32, u32),
+) -> Option<Left> {
+    let (kept, until) = *gates;
+    let gate = HoldGate::new(kept, until, 1_000_000_000);
+    let left = host(rt, alloc, &gate, door, most);
+    if gate.gave_up() { None } else { left }
 }
 
 /// What is left after the links of a door are served. There is nothing if a link was delayed for too long.
@@ -112,14 +155,12 @@ fn served<R: Threads + Wait + Clock + Sync>(
     gates: &(u32, u32),
 ) -> Option<Left> {
     let (count, reads, fail_at, most) = *coming;
-    let (kept, until) = *gates;
     let door = a_door(alloc, count, reads, fail_at)?;
-    if kept == 0 {
-        return host(rt, alloc, &OpenGate, door, most);
+    if gates.0 == 0 {
+        host(rt, alloc, &OpenGate, door, most)
+    } else {
+        served_late(rt, alloc, door, most, gates)
     }
-    let gate = HoldGate::new(kept, until, 1_000_000_000);
-    let left = host(rt, alloc, &gate, door, most)?;
-    if gate.gave_up() { None } else { Some(left) }
 }
 
 /// Reports whether the door was asked once to listen, and never for a link after its end or its failure.
@@ -180,43 +221,35 @@ fn are_left(
         && are_served(hosted.links.as_slice(), answers, entries)
 }
 
-/// Reports whether a door of links that each read `reads` times leaves what is wanted. The answer is missing if memory
-/// is missing.
-fn leaves(
-    alloc: Global,
-    left: &Left,
-    reads: usize,
-    wanted: &Option<(usize, bool)>,
-) -> Option<bool> {
-    let answers = joined(alloc, answers_of(reads))?;
-    let is_so = match (&left.hosted, wanted) {
-        (Ok(hosted), Some(wanted)) => are_left(hosted, &answers, reads as u64, *wanted),
+/// Reports whether a door of links that each read `reads` times, and have these answers, leaves what is wanted.
+fn leaves(left: &Left, answers: &Octets, reads: usize, wanted: &Option<(usize, bool)>) -> bool {
+    match (&left.hosted, wanted) {
+        (Ok(hosted), Some(wanted)) => are_left(hosted, answers, reads as u64, *wanted),
         (Err(NotHosted::Door), None) => true,
         _ => false,
-    };
-    Some(is_so && is_called_in_order(&left.door))
+    }
 }
 
-/// Reports whether a row holds.
-fn goes<R: Threads + Wait + Clock + Sync>(
-    rt: &R,
-    alloc: Global,
-    coming: &Coming,
-    gates: &(u32, u32),
-    wanted: &Option<(usize, bool)>,
-) -> Option<bool> {
-    leaves(alloc, &served(rt, alloc, coming, gates)?, coming.1, wanted)
+/// Reports whether a row holds. The answer is missing if memory is missing, or a link was delayed for too long.
+fn goes<R: Threads + Wait + Clock + Sync>(rt: &R, alloc: Global, row: &Row) -> Option<bool> {
+    let (coming, gates, wanted) = row;
+    let answers = joined(alloc, answers_of(coming.1))?;
+    let left = served(rt, alloc, coming, gates)?;
+    Some(leaves(&left, &answers, coming.1, wanted) && is_called_in_order(&left.door))
+}
+
+/// The number of the first row that doesn't hold.
+fn unmet<R: Threads + Wait + Clock + Sync>(rt: &R, alloc: Global, rows: &[Row]) -> Option<usize> {
+    for (number, row) in rows.iter().enumerate() {
+        if goes(rt, alloc, row) != Some(true) {
+            return Some(number);
+        }
+    }
+    None
 }
 
 /// Doors end and fail as the rows say, and their links are served at the same time.
 #[test]
 fn doors_end_and_fail_in_order_and_their_links_are_served_at_once(rt: HostRuntime) {
-    let mut row = 0u8;
-    for (coming, gates, wanted) in DOORS {
-        assert!(rt;
-            goes(&rt, rt.alloc(), coming, gates, wanted) == Some(true),
-            "row {row}"
-        );
-        row = row.saturating_add(1);
-    }
+    all_hold(&rt, unmet(&rt, rt.alloc(), DOORS));
 }

@@ -23,6 +23,8 @@ mod line;
 #[cfg(test)]
 mod links;
 #[cfg(test)]
+mod rows;
+#[cfg(test)]
 mod sends;
 #[cfg(test)]
 mod servers;

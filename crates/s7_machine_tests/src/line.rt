@@ -26,15 +26,17 @@ pub(crate) fn transmit(line: &mut Line, octets: &[u8]) -> Sent {
 pub(crate) fn receive(line: &mut Line, room: usize, came: &mut Vec<u8>) -> Got {
     let mut into = [0u8; MOST];
     let got = received(line, &mut into, room);
-    if let Got::Bytes(count) = got
-        && let Some(octets) = into.get(..count)
-        && came.extend_from_slice(octets).is_ok()
-    {
-        return got;
-    }
     match got {
-        Got::Bytes(_) => Got::Failed,
-        Got::End | Got::NotYet | Got::Failed => got,
+        Got::Bytes(count) if !appends(came, &into, count) => Got::Failed,
+        _ => got,
+    }
+}
+
+/// Appends the first `count` octets. Reports whether they are there, and memory is left for them.
+fn appends(came: &mut Vec<u8>, octets: &[u8], count: usize) -> bool {
+    match octets.get(..count) {
+        Some(octets) => came.extend_from_slice(octets).is_ok(),
+        None => false,
     }
 }
 
@@ -51,12 +53,22 @@ pub(crate) fn shut(line: &mut Line) {
     line.shutdown();
 }
 
+/// The answer of the link's clock.
+fn now(line: &mut Line) -> Tick {
+    line.now()
+}
+
 /// The moment, in milliseconds since 1970.
 pub(crate) fn moment(line: &mut Line) -> Option<u64> {
-    match line.now() {
+    match now(line) {
         Tick::At(moment) => Some(moment),
         Tick::Failed => None,
     }
+}
+
+/// A door that doesn't listen.
+pub(crate) fn new_door(rt: &HostRuntime) -> Doorway {
+    TcpDoor::new(*rt)
 }
 
 /// Reports whether the door listens on the port.
@@ -79,9 +91,19 @@ pub(crate) fn next(door: &mut Doorway) -> Arrival<Line> {
     door.next()
 }
 
+/// A dial that hasn't called.
+pub(crate) fn a_dial(rt: &HostRuntime) -> TcpDial<HostRuntime> {
+    TcpDial::new(*rt)
+}
+
+/// The answer of a dial to a call.
+fn dialled(dial: &mut TcpDial<HostRuntime>, host: &str, port: u16) -> Dialled<Line> {
+    dial.call(host, port)
+}
+
 /// A link to the port of this host.
-pub(crate) fn call(dial: &mut TcpDial<HostRuntime>, host: &str, port: u16) -> Option<Line> {
-    match dial.call(host, port) {
+pub(crate) fn call(rt: &HostRuntime, host: &str, port: u16) -> Option<Line> {
+    match dialled(&mut a_dial(rt), host, port) {
         Dialled::Link(line) => Some(line),
         Dialled::Failed => None,
     }
@@ -89,8 +111,7 @@ pub(crate) fn call(dial: &mut TcpDial<HostRuntime>, host: &str, port: u16) -> Op
 
 /// A link to the port of this machine.
 pub(crate) fn call_here(rt: &HostRuntime, port: u16) -> Option<Line> {
-    let mut dial = TcpDial::new(*rt);
-    call(&mut dial, "127.0.0.1", port)
+    call(rt, "127.0.0.1", port)
 }
 
 /// Reports whether the link takes all of these octets at once.
@@ -98,17 +119,15 @@ pub(crate) fn takes(line: &mut Line, octets: &[u8]) -> bool {
     transmit(line, octets) == Sent::Bytes(octets.len())
 }
 
-/// The octets that come up to the end.
-pub(crate) fn rest_of(alloc: Global, line: &mut Line) -> Option<Octets> {
-    let mut came = Vec::new(alloc);
-    for _ in 0..1_000u32 {
-        match receive(line, MOST, &mut came) {
-            Got::Bytes(_) | Got::NotYet => {}
-            Got::End => return Some(Octets::of_vec(came)),
-            Got::Failed => return None,
+/// The first answer to a receive but that nothing is there yet. There are at most `most` receives.
+pub(crate) fn late_answer(line: &mut Line, room: usize, most: u32, came: &mut Vec<u8>) -> Got {
+    for _ in 0..most {
+        let got = receive(line, room, came);
+        if got != Got::NotYet {
+            return got;
         }
     }
-    None
+    Got::NotYet
 }
 
 /// Reports whether all octets of a telegram are there. The telegrams of these tests have fewer than 256 octets.
@@ -119,25 +138,47 @@ fn is_whole(came: &[u8]) -> bool {
     }
 }
 
-/// The next telegram, whole. A receive waits 100 milliseconds at most.
-fn take(alloc: Global, line: &mut Line) -> Option<Octets> {
-    let mut came = Vec::new(alloc);
-    for _ in 0..200u32 {
-        match receive(line, 64, &mut came) {
+/// Appends the octets that come up to the end, or those of the next telegram, by at most `most` receives. Reports
+/// whether the end or the whole telegram came. A receive waits 100 milliseconds at most.
+fn gathers(line: &mut Line, room: usize, most: u32, is_to_end: bool, came: &mut Vec<u8>) -> bool {
+    for _ in 0..most {
+        match receive(line, room, came) {
             Got::Bytes(_) | Got::NotYet => {}
-            Got::End | Got::Failed => return None,
+            Got::End => return is_to_end,
+            Got::Failed => return false,
         }
-        if is_whole(came.as_slice()) {
-            return Some(Octets::of_vec(came));
+        if !is_to_end && is_whole(came.as_slice()) {
+            return true;
         }
     }
-    None
+    false
+}
+
+/// The same octets. There are none if the end or the whole telegram doesn't come.
+fn gathered(
+    alloc: Global,
+    line: &mut Line,
+    room: usize,
+    most: u32,
+    is_to_end: bool,
+) -> Option<Octets> {
+    let mut came = Vec::new(alloc);
+    if gathers(line, room, most, is_to_end, &mut came) {
+        Some(Octets::of_vec(came))
+    } else {
+        None
+    }
+}
+
+/// The octets that come up to the end.
+pub(crate) fn rest_of(alloc: Global, line: &mut Line) -> Option<Octets> {
+    gathered(alloc, line, MOST, 1_000, true)
 }
 
 /// Sends a telegram. The result is its answer, which is the next telegram, since nothing comes unasked.
 pub(crate) fn ask(alloc: Global, line: &mut Line, telegram: &[u8]) -> Option<Octets> {
     if takes(line, telegram) {
-        take(alloc, line)
+        gathered(alloc, line, 64, 200, false)
     } else {
         None
     }

@@ -1,7 +1,7 @@
 //! Tests of outside objects that move between threads.
-use crate::line::{moment, next};
+use crate::line::{moment, new_door, next};
 use s7_memory::{FailingLink, HoldGate, MemoryDoor, MemoryLink};
-use s7_os::{RealLink, TcpDoor};
+use s7_os::RealLink;
 use s7_outer::{Arrival, Clock, Door, Gate, Octets, OpenGate, Tick};
 use std::alloc::Global;
 use std::sync::Wait;
@@ -13,23 +13,63 @@ fn moved<R: Threads, T: Send + Drop>(rt: &R, value: T) -> T {
     value
 }
 
+/// A link that fails.
+type Line = FailingLink<MemoryLink>;
+
+/// Octets.
+fn some_octets(alloc: Global) -> Option<Octets> {
+    Octets::copy_of(alloc, b"a").ok()
+}
+
+/// A link in memory.
+fn memory_link(alloc: Global) -> Option<MemoryLink> {
+    MemoryLink::new(alloc, some_octets(alloc)?, 1, 1, 7).ok()
+}
+
+/// A link that fails, over this one.
+fn failing_link(alloc: Global, link: MemoryLink) -> Line {
+    FailingLink::new(link, Vec::new(alloc))
+}
+
 /// A link that fails, over a link in memory.
-fn a_link<R: Threads>(rt: &R, alloc: Global) -> Option<FailingLink<MemoryLink>> {
-    let link = MemoryLink::new(alloc, Octets::copy_of(alloc, b"a").ok()?, 1, 1, 7).ok()?;
-    Some(moved(rt, FailingLink::new(moved(rt, link), Vec::new(alloc))))
+fn a_link<R: Threads>(rt: &R, alloc: Global) -> Option<Line> {
+    match memory_link(alloc) {
+        Some(link) => Some(moved(rt, failing_link(alloc, moved(rt, link)))),
+        None => None,
+    }
+}
+
+/// The only link of a door.
+fn only(alloc: Global, link: Line) -> Option<Vec<Line>> {
+    let mut links = Vec::new(alloc);
+    match links.push(link) {
+        Ok(()) => Some(links),
+        Err(_) => None,
+    }
 }
 
 /// A door in memory with such a link.
-fn a_door<R: Threads>(rt: &R, alloc: Global) -> Option<MemoryDoor<FailingLink<MemoryLink>>> {
-    let mut links = Vec::new(alloc);
-    links.push(a_link(rt, alloc)?).ok()?;
-    Some(moved(rt, MemoryDoor::new(links, None)))
+fn a_door<R: Threads>(rt: &R, alloc: Global) -> Option<MemoryDoor<Line>> {
+    match only(alloc, a_link(rt, alloc)?) {
+        Some(links) => Some(moved(rt, MemoryDoor::new(links, None))),
+        None => None,
+    }
+}
+
+/// The next arrival at a door.
+fn arrives(door: &mut MemoryDoor<Line>) -> Arrival<Line> {
+    door.next()
+}
+
+/// The moment of a link.
+fn now(line: &mut Line) -> Tick {
+    line.now()
 }
 
 /// The moment of the door's link.
 fn shown<R: Threads>(rt: &R, alloc: Global) -> Option<Tick> {
-    match a_door(rt, alloc)?.next() {
-        Arrival::Link(mut link) => Some(link.now()),
+    match arrives(&mut a_door(rt, alloc)?) {
+        Arrival::Link(mut link) => Some(now(&mut link)),
         Arrival::End | Arrival::Failed => None,
     }
 }
@@ -44,7 +84,7 @@ fn has_moment<R: Threads>(rt: &R, host: &HostRuntime) -> bool {
 
 /// Reports whether a door over TCP that doesn't listen fails.
 fn fails<R: Threads>(rt: &R, host: &HostRuntime) -> bool {
-    matches!(next(&mut moved(rt, TcpDoor::new(*host))), Arrival::Failed)
+    matches!(next(&mut moved(rt, new_door(host))), Arrival::Failed)
 }
 
 /// Reports whether a gate that delays a link gives up.
@@ -55,11 +95,16 @@ fn gives_up<R: Threads + Wait>(rt: &R) -> bool {
     gate.gave_up()
 }
 
+/// Reports whether all objects work after they moved between threads.
+fn all_work<R: Threads + Wait>(rt: &R, host: &HostRuntime) -> bool {
+    shown(rt, host.alloc()) == Some(Tick::At(7))
+        && has_moment(rt, host)
+        && fails(rt, host)
+        && gives_up(rt)
+}
+
 /// Outside objects work after they moved between threads.
 #[test]
 fn objects_move_between_threads(rt: HostRuntime) {
-    assert!(rt; shown(&rt, rt.alloc()) == Some(Tick::At(7)));
-    assert!(rt; has_moment(&rt, &rt));
-    assert!(rt; fails(&rt, &rt));
-    assert!(rt; gives_up(&rt));
+    assert!(rt; all_work(&rt, &rt));
 }

@@ -3,13 +3,14 @@
 use crate::called::{AreaFile, Call, Left, called, is_whole};
 use crate::callers::Callers;
 use crate::coming::are_answered;
+use crate::rows::all_hold;
 use crate::shared::{AREAS, is_shared};
 use crate::telegrams::{
     ANSWER, CONFIRM, CONNECT, CONNECT_AGAIN, DISCONNECT, GET, GRANTED, READ, SETUP, WRITE, are,
     joined,
 };
 use s7_outer::Octets;
-use s7_plant::{Event, Observer};
+use s7_plant::{Event, Observer, Tail};
 use s7_session::Outcome;
 use std::alloc::Global;
 use std::sync::Wait;
@@ -85,11 +86,14 @@ const EIGHT: &[&str] = &[
 /// The words of a server on the standard input, which has ended in a test.
 const PIPE: &[&str] = &["pipe", "a.txt"];
 
+/// The answers on one link.
+type Answers = &'static [&'static [u8]];
+
 /// What is left after a call.
 enum Wanted {
     /// The server ends with this status and this report, and these telegrams come to the one caller, on one link after
     /// another. No link is delayed for too long.
-    Reports(u8, &'static str, &'static [&'static [&'static [u8]]]),
+    Reports(u8, &'static str, &'static [Answers]),
     /// The observer counts this number of events, and keeps this one, the newest.
     Tells(u64, Option<Event>),
     /// The first of two links ends with this outcome, and its caller sees the end without any octet before it. The
@@ -353,14 +357,32 @@ const ROWS: &[Row] = &[
     },
 ];
 
-/// Reports whether these answers came, in order. The octets of a link are those of its telegrams.
-fn have_come(alloc: Global, came: &[Octets], answers: &[&[&[u8]]]) -> Option<bool> {
-    for (came, telegrams) in came.iter().zip(answers) {
-        if came.as_slice() != joined(alloc, telegrams)?.as_slice() {
-            return Some(false);
-        }
+/// Reports whether these octets are those of the telegrams.
+fn is_joined(alloc: Global, came: &Octets, telegrams: &[&[u8]]) -> bool {
+    match joined(alloc, telegrams) {
+        Some(octets) => came.as_slice() == octets.as_slice(),
+        None => false,
     }
-    Some(came.len() == answers.len())
+}
+
+/// Reports whether these octets are the answers on the link at a place.
+fn is_at(alloc: Global, came: &Octets, answers: &[Answers], place: usize) -> bool {
+    match answers.get(place) {
+        Some(telegrams) => is_joined(alloc, came, telegrams),
+        None => false,
+    }
+}
+
+/// Reports whether these answers came, in order. The octets of a link are those of its telegrams.
+fn have_come(alloc: Global, came: &[Octets], answers: &[Answers]) -> bool {
+    let mut place = 0usize;
+    for came in came {
+        if !is_at(alloc, came, answers, place) {
+            return false;
+        }
+        place = place.saturating_add(1);
+    }
+    place == answers.len()
 }
 
 /// Reports whether the server ended with this status and report, and delayed no link for too long.
@@ -368,15 +390,15 @@ fn reports(left: &Left, status: u8, report: &str) -> bool {
     left.status == status && left.out.text() == report.as_bytes() && !left.gave_up
 }
 
+/// Reports whether an observer counted this number of events, and keeps this one, the newest.
+fn tells(tail: &Tail, count: u64, newest: &Option<Event>) -> bool {
+    tail.count() == count && tail.newest(0) == *newest && tail.newest(1).is_none()
+}
+
 /// Reports whether the observer counted this number of events, and keeps this one, the newest.
 fn is_told(left: &Left, count: u64, newest: &Option<Event>) -> Option<bool> {
     let watcher = left.run.as_ref()?.book.observers.first()?;
-    Some(
-        watcher.observer.count() == count
-            && watcher.observer.newest(0) == *newest
-            && watcher.observer.newest(1).is_none()
-            && watcher.since == 0,
-    )
+    Some(watcher.since == 0 && tells(&watcher.observer, count, newest))
 }
 
 /// Reports whether both links were negotiated, nothing came on the first one before its end, and the second one was
@@ -402,34 +424,61 @@ fn have_ended(left: &Left, first: &Outcome) -> Option<bool> {
     }
 }
 
-/// Reports whether a call left what is wanted.
-fn is(alloc: Global, left: &Left, wanted: &Wanted) -> Option<bool> {
-    let came = left.came.first()?.as_slice();
+/// Reports whether each read of a client shows what the entries before it left.
+fn shares(alloc: Global, left: &Left) -> bool {
+    match &left.run {
+        Some(run) => is_whole(left, 8, 488) && is_shared(alloc, left.came.as_slice(), &run.book),
+        None => false,
+    }
+}
+
+/// Reports whether a call left what is wanted, of which this came to its first caller.
+fn has_left(alloc: Global, left: &Left, came: &[Octets], wanted: &Wanted) -> bool {
     match wanted {
         Wanted::Reports(status, report, answers) => {
-            Some(reports(left, *status, report) && have_come(alloc, came, answers)?)
+            reports(left, *status, report) && have_come(alloc, came, answers)
         }
-        Wanted::Tells(count, newest) => is_told(left, *count, newest),
-        Wanted::Ends(outcome) => Some(are_served(came) && have_ended(left, outcome)?),
+        Wanted::Tells(count, newest) => is_told(left, *count, newest) == Some(true),
+        Wanted::Ends(outcome) => are_served(came) && have_ended(left, outcome) == Some(true),
         Wanted::Reads(read, refused) => {
-            Some(is_whole(left, 200, *read)? && are_answered(left, *read, *refused)?)
+            is_whole(left, 200, *read) && are_answered(left, *read, *refused)
         }
-        Wanted::Shares => {
-            let book = &left.run.as_ref()?.book;
-            Some(is_whole(left, 8, 488)? && is_shared(alloc, left.came.as_slice(), book)?)
-        }
+        Wanted::Shares => shares(alloc, left),
+    }
+}
+
+/// Reports whether a call left what is wanted.
+fn is(alloc: Global, left: &Left, wanted: &Wanted) -> bool {
+    match left.came.first() {
+        Some(came) => has_left(alloc, left, came.as_slice(), wanted),
+        None => false,
     }
 }
 
 /// Reports whether a row holds.
-fn goes<R: Threads + Wait + Clock + Sync>(rt: &R, host: HostRuntime, row: &Row) -> Option<bool> {
-    is(host.alloc(), &called(rt, host, &row.call)?, &row.wanted)
+fn goes<R: Threads + Wait + Clock + Sync>(rt: &R, host: HostRuntime, row: &Row) -> bool {
+    match called(rt, host, &row.call) {
+        Some(left) => is(host.alloc(), &left, &row.wanted),
+        None => false,
+    }
+}
+
+/// The number of the first row that doesn't hold.
+fn unmet<R: Threads + Wait + Clock + Sync>(
+    rt: &R,
+    host: HostRuntime,
+    rows: &[Row],
+) -> Option<usize> {
+    for (number, row) in rows.iter().enumerate() {
+        if !goes(rt, host, row) {
+            return Some(number);
+        }
+    }
+    None
 }
 
 /// Servers answer, report and leave what the rows say.
 #[test]
 fn servers_answer_and_leave_what_they_are_asked(rt: HostRuntime) {
-    for (number, row) in ROWS.iter().enumerate() {
-        assert!(rt; goes(&rt, rt, row) == Some(true), "row {number}");
-    }
+    all_hold(&rt, unmet(&rt, rt, ROWS));
 }

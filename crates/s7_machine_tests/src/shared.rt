@@ -1,5 +1,5 @@
 //! Clients that write data blocks of their own and a shared one, at the same time.
-use crate::telegrams::{CONFIRM, CONNECT, GRANTED, SETUP, are, joined, packets};
+use crate::telegrams::{CONFIRM, CONNECT, GRANTED, SETUP, appends, are, joined, packets};
 use crate::walk::{Walk, key_of};
 use s7_area::Areas;
 use s7_outer::Octets;
@@ -87,16 +87,31 @@ fn write(alloc: Global, client: u8, round: u8, block: u8) -> Option<Octets> {
     )
 }
 
+/// Appends the telegrams of a round, two writes and a read. Reports whether memory is left for them.
+fn appends_round(alloc: Global, all: &mut Vec<Octets>, client: u8, round: u8) -> bool {
+    appends(all, write(alloc, client, round, client))
+        && appends(all, write(alloc, client, round, SHARED))
+        && appends(all, read(alloc, client, round))
+}
+
+/// Appends the telegrams of all rounds. Reports whether memory is left for them.
+fn appends_rounds(alloc: Global, all: &mut Vec<Octets>, client: u8) -> bool {
+    for round in 1..=ROUNDS {
+        if !appends_round(alloc, all, client, round) {
+            return false;
+        }
+    }
+    true
+}
+
 /// The telegrams of a client: a read before the first round, and two writes and a read in each round.
 pub(crate) fn telegrams_of(alloc: Global, client: u8) -> Option<Vec<Octets>> {
     let mut all = packets(alloc, &[CONNECT, SETUP])?;
-    all.push(read(alloc, client, 0)?).ok()?;
-    for round in 1..=ROUNDS {
-        all.push(write(alloc, client, round, client)?).ok()?;
-        all.push(write(alloc, client, round, SHARED)?).ok()?;
-        all.push(read(alloc, client, round)?).ok()?;
+    if appends(&mut all, read(alloc, client, 0)) && appends_rounds(alloc, &mut all, client) {
+        Some(all)
+    } else {
+        None
     }
-    Some(all)
 }
 
 /// Reports whether an answer is that to a write of this data block.
@@ -157,22 +172,39 @@ fn walked<'a>(alloc: Global, came: &'a [Vec<Octets>], journal: &[Entry]) -> Opti
     Some(walk)
 }
 
+/// Reports whether a data block has these octets.
+fn has_octets(areas: &Areas, block: u8, octets: Option<[u8; 4]>) -> bool {
+    match (areas.octets_of(key_of(u16::from(block))), octets) {
+        (Some(left), Some(octets)) => left == octets.as_slice(),
+        _ => false,
+    }
+}
+
+/// Reports whether a client has read in each round. All clients write the shared data block, which has no client.
+fn has_read(walk: &Walk<'_>, block: u8) -> bool {
+    block == SHARED || walk.reads_of(block) == Some(ROUNDS + 1)
+}
+
 /// Reports whether the plant has what all entries left, and each client has read in each round.
-fn is_left(areas: &Areas, walk: &Walk<'_>) -> Option<bool> {
+fn is_left(areas: &Areas, walk: &Walk<'_>) -> bool {
     for block in 1..=SHARED {
-        let left = areas.octets_of(key_of(u16::from(block)))?;
-        if left != walk.block(block)?.as_slice()
-            || (block != SHARED && walk.reads_of(block)? != ROUNDS + 1)
-        {
-            return Some(false);
+        if !has_octets(areas, block, walk.block(block)) || !has_read(walk, block) {
+            return false;
         }
     }
-    Some(true)
+    true
+}
+
+/// Reports whether each read shows what the entries before it left, and the plant has what all entries left.
+fn has_left(alloc: Global, came: &[Vec<Octets>], book: &Book<Tail>) -> bool {
+    match walked(alloc, came, book.journal.as_slice()) {
+        Some(walk) => is_left(&book.plant.areas, &walk),
+        None => false,
+    }
 }
 
 /// Reports whether all clients were answered, each read shows what the entries before it left, and the plant has what
 /// all entries left.
-pub(crate) fn is_shared(alloc: Global, came: &[Vec<Octets>], book: &Book<Tail>) -> Option<bool> {
-    let walk = walked(alloc, came, book.journal.as_slice())?;
-    Some(are_answered(alloc, came) && is_left(&book.plant.areas, &walk)?)
+pub(crate) fn is_shared(alloc: Global, came: &[Vec<Octets>], book: &Book<Tail>) -> bool {
+    are_answered(alloc, came) && has_left(alloc, came, book)
 }

@@ -84,27 +84,67 @@ pub(crate) const ANSWER_AFTER_WRITE: &[u8] = &[
 /// The octets of these parts, one after another.
 pub(crate) fn joined(alloc: Global, parts: &[&[u8]]) -> Option<Octets> {
     let mut all = Vec::new(alloc);
-    for part in parts {
-        all.extend_from_slice(part).ok()?;
+    if joins(&mut all, parts) {
+        Some(Octets::of_vec(all))
+    } else {
+        None
     }
-    Some(Octets::of_vec(all))
+}
+
+/// Appends the octets of these parts. Reports whether memory is left for them.
+fn joins(all: &mut Vec<u8>, parts: &[&[u8]]) -> bool {
+    for part in parts {
+        if all.extend_from_slice(part).is_err() {
+            return false;
+        }
+    }
+    true
+}
+
+/// Appends octets. Reports whether they are there, and memory is left for them.
+pub(crate) fn appends(came: &mut Vec<Octets>, octets: Option<Octets>) -> bool {
+    match octets {
+        Some(octets) => came.push(octets).is_ok(),
+        None => false,
+    }
+}
+
+/// Appends telegrams with these octets. Reports whether memory is left for them.
+fn appends_all(alloc: Global, all: &mut Vec<Octets>, telegrams: &[&[u8]]) -> bool {
+    for telegram in telegrams {
+        if !appends(all, Octets::copy_of(alloc, telegram).ok()) {
+            return false;
+        }
+    }
+    true
 }
 
 /// Telegrams with these octets.
 pub(crate) fn packets(alloc: Global, telegrams: &[&[u8]]) -> Option<Vec<Octets>> {
     let mut all = Vec::new(alloc);
-    for telegram in telegrams {
-        all.push(Octets::copy_of(alloc, telegram).ok()?).ok()?;
+    if appends_all(alloc, &mut all, telegrams) {
+        Some(all)
+    } else {
+        None
     }
-    Some(all)
+}
+
+/// Reports whether a telegram has the octets at a place.
+fn is_at(came: &Octets, wanted: &[&[u8]], place: usize) -> bool {
+    match wanted.get(place) {
+        Some(octets) => came.as_slice() == *octets,
+        None => false,
+    }
 }
 
 /// Reports whether the telegrams have these octets, one by one.
 pub(crate) fn are(came: &[Octets], wanted: &[&[u8]]) -> bool {
-    for (came, wanted) in came.iter().zip(wanted) {
-        if came.as_slice() != *wanted {
+    let mut place = 0usize;
+    for came in came {
+        if !is_at(came, wanted, place) {
             return false;
         }
+        place = place.saturating_add(1);
     }
-    came.len() == wanted.len()
+    place == wanted.len()
 }

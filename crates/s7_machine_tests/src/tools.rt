@@ -2,11 +2,12 @@
 //! and the jobs that its completion counts.
 //!
 //! Only `ended` calls `tool_main`, since each function that calls it is costly to prove.
-use crate::line::{Doorway, Line, listen_from, next, rest_of, takes};
+use crate::line::{Doorway, Line, a_dial, listen_from, new_door, next, rest_of, takes};
+use crate::rows::all_hold;
 use crate::telegrams::{CONFIRM, CONNECT, DISCONNECT, joined};
 use s7_client::{Config, Counter};
 use s7_memory::{MemoryFiles, MemoryOut};
-use s7_os::{TcpDial, TcpDoor};
+use s7_os::TcpDial;
 use s7_outer::{Arrival, Octets};
 use s7_partner::{Partner, PartnerEvent, Role};
 use s7_tool_main::{ToolEnd, tool_main};
@@ -197,14 +198,32 @@ struct Told {
     out: MemoryOut,
 }
 
+/// Inserts a file. Reports whether memory is left for it.
+fn inserts(files: &mut MemoryFiles, alloc: Global, path: &str, text: Option<Octets>) -> bool {
+    match text {
+        Some(text) => files.insert(alloc, path, text).is_ok(),
+        None => false,
+    }
+}
+
+/// Inserts these files. Reports whether memory is left for them.
+fn inserts_all(files: &mut MemoryFiles, alloc: Global, texts: &[(&str, &str)]) -> bool {
+    for (path, text) in texts {
+        if !inserts(files, alloc, path, joined(alloc, &[text.as_bytes()])) {
+            return false;
+        }
+    }
+    true
+}
+
 /// The files.
 fn files(alloc: Global) -> Option<MemoryFiles> {
     let mut files = MemoryFiles::new();
-    for (path, text) in FILES {
-        let text = joined(alloc, &[text.as_bytes()])?;
-        files.insert(alloc, path, text).ok()?;
+    if inserts_all(&mut files, alloc, &FILES) {
+        Some(files)
+    } else {
+        None
     }
-    Some(files)
 }
 
 /// An output of this room.
@@ -223,30 +242,38 @@ fn ended(
     tool_main(alloc, words, files, dial, out, Some(Counter::new()))
 }
 
-/// The outcome of a call, without what came to its peer. The call's link is closed here, since the peer waits for the
-/// end of what comes.
-fn tells(host: HostRuntime, words: &[&str], room: usize) -> Option<Told> {
-    let alloc = host.alloc();
-    let mut files = files(alloc)?;
-    let mut out = an_output(alloc, room)?;
-    let mut dial = TcpDial::new(host);
-    let end = ended(alloc, words, &mut files, &mut dial, &mut out);
+/// The outcome with this end and this output, without what came to the peer.
+fn outcome_of(alloc: Global, end: ToolEnd<Line, Counter>, out: MemoryOut) -> Told {
     let ToolEnd { status, done, .. } = end;
-    Some(Told {
+    Told {
         came: Octets::of_vec(Vec::new(alloc)),
         status,
         done,
         out,
-    })
+    }
 }
 
-/// The outcome of a call with the words of a line.
-fn line_tells(host: HostRuntime, line: &str, room: usize) -> Option<Told> {
-    let mut words = Vec::new(host.alloc());
-    for word in line.split_ascii_whitespace() {
-        words.push(word).ok()?;
-    }
-    tells(host, words.as_slice(), room)
+/// The outcome of a call over these files, without what came to its peer. The call's link is closed here, since the peer
+/// waits for the end of what comes.
+fn tells_over(
+    host: HostRuntime,
+    words: &[&str],
+    files: &mut MemoryFiles,
+    room: usize,
+) -> Option<Told> {
+    let mut out = an_output(host.alloc(), room)?;
+    let end = ended(host.alloc(), words, files, &mut a_dial(&host), &mut out);
+    Some(outcome_of(host.alloc(), end, out))
+}
+
+/// The outcome of a call, without what came to its peer.
+fn tells(host: HostRuntime, words: &[&str], room: usize) -> Option<Told> {
+    tells_over(host, words, &mut files(host.alloc())?, room)
+}
+
+/// A port as a word.
+fn word_of(alloc: Global, port: u16) -> Option<String> {
+    format!(in alloc; "{port}").ok()
 }
 
 /// The outcome of a call of two words, which are followed by a port.
@@ -254,8 +281,8 @@ fn tells_at(host: HostRuntime, command: &Command, port: u16) -> Option<Told> {
     let [name, file] = command.words else {
         return None;
     };
-    let line = format!(in host.alloc(); "{name} {file} --port {port}").ok()?;
-    line_tells(host, line.as_str(), command.room)
+    let port = word_of(host.alloc(), port)?;
+    tells(host, &[*name, *file, "--port", port.as_str()], command.room)
 }
 
 /// A partner that listens.
@@ -272,27 +299,56 @@ fn polled(alloc: Global, partner: &mut Partner, line: &mut Line) -> Option<Partn
 /// another event of a block.
 fn is_closed(event: PartnerEvent, came: &mut Vec<Octets>) -> Option<bool> {
     match event {
-        PartnerEvent::Received { rid: 1, body } => {
-            came.push(body).ok()?;
-            Some(false)
-        }
+        PartnerEvent::Received { rid: 1, body } => match came.push(body) {
+            Ok(()) => Some(false),
+            Err(_) => None,
+        },
         PartnerEvent::Received { .. } | PartnerEvent::Sent => None,
         PartnerEvent::Pending | PartnerEvent::Idle => Some(false),
         PartnerEvent::Closed(_) => Some(true),
     }
 }
 
-/// The block under R_ID 1 that a passive partner delivers on a link before it ends.
-fn handed_out(alloc: Global, line: &mut Line) -> Option<Octets> {
-    let mut partner = a_partner(alloc)?;
-    let mut came = Vec::new(alloc);
+/// Polls a partner once. Reports whether it closed. A block that it received under R_ID 1 is appended.
+fn closes(
+    alloc: Global,
+    partner: &mut Partner,
+    line: &mut Line,
+    came: &mut Vec<Octets>,
+) -> Option<bool> {
+    match polled(alloc, partner, line) {
+        Some(event) => is_closed(event, came),
+        None => None,
+    }
+}
+
+/// Reports whether a partner closes. The blocks that it received under R_ID 1 are appended.
+fn goes_on_to_the_end(
+    alloc: Global,
+    partner: &mut Partner,
+    line: &mut Line,
+    came: &mut Vec<Octets>,
+) -> bool {
     for _ in 0..1_000u32 {
-        let event = polled(alloc, &mut partner, line)?;
-        if is_closed(event, &mut came)? {
-            return came.pop();
+        match closes(alloc, partner, line, came) {
+            Some(false) => {}
+            Some(true) => return true,
+            None => return false,
         }
     }
-    None
+    false
+}
+
+/// The last block, if the partner closed.
+fn last_of(mut came: Vec<Octets>, has_closed: bool) -> Option<Octets> {
+    if has_closed { came.pop() } else { None }
+}
+
+/// The block under R_ID 1 that a passive partner delivers on a link before it ends.
+fn handed_out(alloc: Global, line: &mut Line) -> Option<Octets> {
+    let mut came = Vec::new(alloc);
+    let has_closed = goes_on_to_the_end(alloc, &mut a_partner(alloc)?, line, &mut came);
+    last_of(came, has_closed)
 }
 
 /// The octets that come up to the end to a peer that gives these.
@@ -305,30 +361,52 @@ fn answered(alloc: Global, line: &mut Line, given: &[&[u8]]) -> Option<Octets> {
     }
 }
 
-/// What comes to a peer on the next link of a door.
-fn comes(host: HostRuntime, mut door: Doorway, peer: &Peer) -> Option<Octets> {
-    let Arrival::Link(mut line) = next(&mut door) else {
-        return None;
-    };
+/// What comes to a peer on a link.
+fn comes_on(alloc: Global, line: &mut Line, peer: &Peer) -> Option<Octets> {
     match peer {
-        Peer::Gives(given) => answered(host.alloc(), &mut line, given),
-        Peer::Partner => handed_out(host.alloc(), &mut line),
+        Peer::Gives(given) => answered(alloc, line, given),
+        Peer::Partner => handed_out(alloc, line),
         Peer::Nobody => None,
     }
 }
 
-/// The outcome of a call over TCP, with what came to its peer.
-fn over_tcp<R: Threads>(rt: &R, host: HostRuntime, command: &Command) -> Option<Told> {
-    let mut door = TcpDoor::new(host);
-    let port = listen_from(&mut door, 24_102)?;
-    let (came, told) = join(
+/// What comes to a peer on the next link of a door.
+fn comes(host: HostRuntime, mut door: Doorway, peer: &Peer) -> Option<Octets> {
+    match next(&mut door) {
+        Arrival::Link(mut line) => comes_on(host.alloc(), &mut line, peer),
+        Arrival::End | Arrival::Failed => None,
+    }
+}
+
+/// What came to the peer of a call at this door, and the outcome without that.
+fn both<R: Threads>(
+    rt: &R,
+    host: HostRuntime,
+    command: &Command,
+    door: Doorway,
+    port: u16,
+) -> (Option<Octets>, Option<Told>) {
+    join(
         rt,
         move || comes(host, door, &command.peer),
         move || tells_at(host, command, port),
-    );
+    )
+}
+
+/// The outcome with what came to its peer.
+fn with_came((came, told): (Option<Octets>, Option<Told>)) -> Option<Told> {
     let mut told = told?;
     told.came = came?;
     Some(told)
+}
+
+/// The outcome of a call over TCP, with what came to its peer.
+fn over_tcp<R: Threads>(rt: &R, host: HostRuntime, command: &Command) -> Option<Told> {
+    let mut door = new_door(&host);
+    match listen_from(&mut door, 24_102) {
+        Some(port) => with_came(both(rt, host, command, door, port)),
+        None => None,
+    }
 }
 
 /// The outcome of a command.
@@ -355,23 +433,43 @@ fn prints(out: &MemoryOut, report: &Option<&str>) -> bool {
     }
 }
 
-/// Reports whether a command has its outcome.
-fn goes<R: Threads>(rt: &R, host: HostRuntime, command: &Command) -> Option<bool> {
-    let told = told_of(rt, host, command)?;
-    let came = joined(host.alloc(), command.came)?;
+/// Reports whether these octets are those of the telegrams.
+fn is_joined(alloc: Global, came: &Octets, telegrams: &[&[u8]]) -> bool {
+    match joined(alloc, telegrams) {
+        Some(octets) => came.as_slice() == octets.as_slice(),
+        None => false,
+    }
+}
+
+/// Reports whether this is the outcome of a command.
+fn is_told(alloc: Global, told: &Told, command: &Command) -> bool {
     let (calls, last) = command.told;
-    Some(
-        told.status == command.status
-            && told.came.as_slice() == came.as_slice()
-            && prints(&told.out, &command.report)
-            && counts(&told.done, calls, last),
-    )
+    told.status == command.status
+        && is_joined(alloc, &told.came, command.came)
+        && prints(&told.out, &command.report)
+        && counts(&told.done, calls, last)
+}
+
+/// Reports whether a command has its outcome.
+fn goes<R: Threads>(rt: &R, host: HostRuntime, command: &Command) -> bool {
+    match told_of(rt, host, command) {
+        Some(told) => is_told(host.alloc(), &told, command),
+        None => false,
+    }
+}
+
+/// The number of the first command that doesn't have its outcome.
+fn unmet<R: Threads>(rt: &R, host: HostRuntime, commands: &[Command]) -> Option<usize> {
+    for (number, command) in commands.iter().enumerate() {
+        if !goes(rt, host, command) {
+            return Some(number);
+        }
+    }
+    None
 }
 
 /// Tools send, print and count what the commands say.
 #[test]
 fn tools_send_and_print_and_tell_of_jobs_alone(rt: HostRuntime) {
-    for (number, command) in COMMANDS.iter().enumerate() {
-        assert!(rt; goes(&rt, rt, command) == Some(true), "command {number}");
-    }
+    all_hold(&rt, unmet(&rt, rt, COMMANDS));
 }

@@ -1,0 +1,10 @@
+//! The end of a test over the rows of a table.
+use std::process::Abort;
+
+/// Ends the test with the number of a row that doesn't hold, if there is one.
+pub(crate) fn all_hold(rt: &impl Abort, unmet: Option<usize>) {
+    assert!(rt;
+        unmet.is_none(),
+        "the first row that doesn't hold is {unmet:?}"
+    );
+}
