@@ -11,3 +11,5 @@ pub mod TagLemmas
 pub mod TextLemmas
 pub mod ToldLemmas
 pub mod WatchLemmas
+pub mod WholeLemmas
+pub mod ShownLemmas

@@ -7,6 +7,7 @@ use Rattle.s7_outer.specs.OutShown.{OutShown}
 use Rattle.s7_area.specs.Memory.{Memory}
 use Rattle.s7_dialogue.specs.declared.config.Config.{Config}
 use Rattle.s7_rig.specs.declared.end.RigEnd.{RigEnd}
+use Rattle.s7_rig.specs.Followed.{RigsFollow}
 use Rattle.s7_rig.specs.Formed.{AreFormed, IsFormed, RigsAreFormed}
 use Rattle.s7_rig.specs.Rigs.{RigRan, Turning}
 use Rattle.s7_rig.specs.Scripts.{Script}
@@ -20,7 +21,9 @@ use Rattle.s7_script.specs.declared.areas.load.LoadFault.{LoadFault as AreasFaul
 use Rattle.s7_script.specs.declared.areas.load.LoadFault.TheVariants as areas
 use Rattle.s7_script.specs.declared.scripts.script_list.ScriptLine.{ScriptLine}
 use Rattle.s7_symbol.specs.declared.tag.Tag.{Tag}
+use Rattle.s7_watched.specs.Watched.{RigsShowWatches}
 use Rattle.s7_args.specs.Tool.{RigTold}
+use Rattle.s7_tool_main.specs.Asked.{rig_config, turning_of}
 use Rattle.s7_tool_main.specs.declared.ended.Ended.{Ended}
 use Rattle.s7_tool_main.specs.declared.ended.Ended.TheVariants as ended
 use Rattle.s7_tool_main.specs.declared.load.LoadFault.{LoadFault}
@@ -35,6 +38,7 @@ use Rattle.s7_tool_main.specs.Rigging.{ComesTo, FailsAfterTags, FailsOther, IsPa
 use Rattle.s7_tool_main.specs.Rigging.{RefusesAreas, RefusesOneScript, RefusesOther, RigEnds, areas_refusal_line}
 use Rattle.s7_tool_main.specs.Rigging.{rig_scripts}
 use Rattle.s7_tool_main.specs.Scripts.{ReadsScripts, StopsAt}
+use Rattle.s7_tool_main.proofs.ShownLemmas.{watch_shows}
 use Rattle.s7_tool_main.proofs.TagLemmas.{fails_tags, fails_tags_by, refuses_tags, refuses_tags_by, refuses_text}
 use Rattle.s7_tool_main.proofs.TagLemmas.{with_tags, with_tags_by}
 
@@ -186,7 +190,8 @@ module _ (told : RigTold) (old new : FilesShown) (out out' : OutShown) where
         rig_unread p f ended.Dial h t = absurd t
 
         -- a rig ran
-        module _ (scripts : List (List ScriptLine)) (read : ReadsScripts known told.scripts old scripts) (rig : RigEnd)
+        module _ (follows : RigsFollow) (shows : RigsShowWatches) (scripts : List (List ScriptLine))
+            (read : ReadsScripts known told.scripts old scripts) (rig : RigEnd)
             (ran : RanJobs told m (rig_scripts scripts watched told.rounds) (end_told rig)) where
           abbrev PrintsRig : Ended → Type 0
           PrintsRig how =
@@ -205,6 +210,9 @@ module _ (told : RigTold) (old new : FilesShown) (out out' : OutShown) where
             read = read;
             ran = ran;
             printed = printed;
+            watch =
+                watch_shows follows shows m told.journal (rig_config told.pdu told.jobs) (turning_of told) (end_told rig) scripts
+                told.rounds watched ran;
           }
 
           pub rigged : (how : Ended) → PrintsRig how → RigEnds told old new out out' (Some rig) how

@@ -137,7 +137,7 @@ connect_taken ahead lasts (told ∷ results) left h p =
 
 -- ---- the watcher of a rig
 
-watcher_last : (scripts : List (List ScriptLine)) (tags : List Tag) (rounds : ℕ)
+pub watcher_last : (scripts : List (List ScriptLine)) (tags : List Tag) (rounds : ℕ)
     → slice_get (rig_scripts scripts (Some tags) rounds) (length scripts) ≡ Some (watch_script tags rounds)
 watcher_last [] tags rounds = refl
 watcher_last (lines ∷ scripts) tags rounds = watcher_last scripts tags rounds

@@ -10,6 +10,7 @@ pub mod Ran
 pub mod Report
 pub mod RigText
 pub mod Taking
+pub mod Watching
 pub mod Rigging
 pub mod Run
 pub mod Scripts

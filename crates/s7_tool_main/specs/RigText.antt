@@ -70,12 +70,15 @@ is_last (Some told) = is_disconnect told.job
 abbrev pub has_left : List JobResult → Bool
 has_left results = is_last (slice_get results (length results - 1))
 
+-- a line if the watcher didn't come to its disconnect
+abbrev pub unfinished_text : ClientTold → List ℕ
+unfinished_text c = if has_left c.results then [] else unfinished_line c.link
+
 -- the lines of the watcher's reads, which follow its connect, and a line if it didn't come to its disconnect
 abbrev pub lines_of : List Tag → ℕ → Option ClientTold → List ℕ
 lines_of tags rounds None = []
 lines_of tags rounds (Some c) =
-    result_lines (nothing_seen tags) (looks tags rounds) (drop 1 c.results)
-    ++ (if has_left c.results then [] else unfinished_line c.link)
+    result_lines (nothing_seen tags) (looks tags rounds) (drop 1 c.results) ++ unfinished_text c
 
 -- THE TEXT of the watcher of these tags; it is empty if no tags are watched
 abbrev pub watch_text : Option (List Tag) → ℕ → Option ClientTold → List ℕ

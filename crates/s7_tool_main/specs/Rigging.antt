@@ -1,5 +1,6 @@
 -- What the command `rig` does.
-use Rattle.std.specs.Prelude.{◌≡◌, ◌⊎◌, ℕ, List, [], ◌∷◌, ◌++◌, map, Option, Some, None, IsNone, IsSomeAnd, Ok, Err}
+use Rattle.std.specs.Prelude.{◌≡◌, ◌⊎◌, ℕ, List, [], ◌∷◌, ◌++◌, map, Option, Some, None, Ok, Err}
+use Rattle.std.specs.Prelude.{IfSome, IsNone, IsSomeAnd}
 use Rattle.s7_outer.specs.FilesShown.{FilesShown}
 use Rattle.s7_outer.specs.OutShown.{OutShown}
 use Rattle.s7_area.specs.Memory.{Memory}
@@ -24,6 +25,7 @@ use Rattle.s7_tool_main.specs.Report.{Printed, PrintsText, areas_line, memory_li
 use Rattle.s7_tool_main.specs.RigText.{are_clients_good, rig_text}
 use Rattle.s7_tool_main.specs.Run.{jobs_of}
 use Rattle.s7_tool_main.specs.Scripts.{ReadsBefore, ReadsScripts}
+use Rattle.s7_tool_main.specs.Watching.{ShowsWatch}
 
 -- ---- files
 
@@ -121,7 +123,8 @@ JobsWanting told opening scripts before after =
     ToldWanting opening told.journal (rig_config told.pdu told.jobs) scripts (turning_of told) before after
 
 -- A RIG RAN over the areas and the scripts that the words name, with the tags of the named file, and with a watcher if a
--- watch file is named; all of them are those of the files if the files show their octets; and its text was printed
+-- watch file is named; all of them are those of the files if the files show their octets; and its text was printed. If
+-- tags are watched, this text shows the watch
 pub record RanRig (told : RigTold) (files : FilesShown) (out out' : OutShown) (end : EndTold)
     (how : Ended) : Type 0 where
   pub known : Option (List Tag)
@@ -135,6 +138,8 @@ pub record RanRig (told : RigTold) (files : FilesShown) (out out' : OutShown) (e
   pub ran : RanJobs told opening (rig_scripts scripts watched told.rounds) end
   pub printed : PrintsText (rig_text scripts watched told.rounds end) (are_clients_good scripts watched end.clients)
       out out' how
+  pub watch : IfSome watched (λ tags. ShowsWatch opening told.pdu scripts tags told.rounds end
+      (rig_text scripts watched told.rounds end))
 
 -- HOW `rig` ENDED, by the files and the output before and after, and the rig if one ran
 abbrev pub RigEnds : RigTold → FilesShown → FilesShown → OutShown → OutShown → Option RigEnd → Ended → Type 0

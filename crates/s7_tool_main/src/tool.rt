@@ -67,11 +67,18 @@ pub const MEMORY: u8 = 9;
 /// With `--tags`, `run` and `rig` read the tag file before all other files. The lines of scripts may then name its
 /// tags, and the result of a line that names one is printed with the value of the tag.
 ///
+/// With `--watch`, `rig` reads the tags of that file next. Its last client is then the watcher: it connects, reads
+/// these tags in as many rounds as the words say, and disconnects, at once after a read that failed. Its lines come
+/// after those of the scripts. There is a line for each sample that is the first of its tag or differs from the last
+/// one, and one for a read that failed. The samples are those that the areas held at the entries of the watcher's
+/// telegrams: all samples of one telegram have one entry, and the numbers of the entries rise. With status 0 there are
+/// samples of all tags in all rounds.
+///
 /// The status is
 ///
 /// - 1 if the words are no command;
-/// - 2 if a tag file, a script, a sends file or the areas can't be read: a line is faulty, or the file has more than
-///   67,108,864 octets;
+/// - 2 if a tag file, a script, a sends file or the areas can't be read: a line is faulty, the file of `--watch` has no
+///   tag, or the file has more than 67,108,864 octets;
 /// - 3 if a file that the words name failed;
 /// - 4 if the dial failed;
 /// - 5 if the output failed at a result or a piece of news, which ends a run, or at the text of a rig or of two

@@ -29,6 +29,7 @@ use s7_outer::{Files, Memory, Out};
 use s7_rig::{ClientScript, RigClient, RigEnd, Schedule, rigs_are_formed, rigs_follow, run_rig};
 use s7_script::{Script, ends_print, load_areas, scripts_keep_links};
 use s7_symbol::Tags;
+use s7_watched::rigs_show_watches;
 use std::alloc::{AllocError, Global};
 
 /// A rig that ran, its text, and whether all went well.
@@ -84,6 +85,8 @@ pub(crate) fn run_rigging<F: Files, O: Out, C: Completion>(
             return (ended, None);
         }
     };
+    rigs_follow();
+    rigs_show_watches();
     match run_scripts(alloc, &words, areas, scripts, watched, done) {
         Ok(rigged) => {
             let ended = print_text(rigged.text.as_slice(), rigged.is_good, out);

@@ -112,8 +112,8 @@ returns-in-Ok-run_scripts-clause-ended g c =
     subst (λ b. PrintsText (rig_text scripts watched told.rounds (end_told rig.end)) b from to how)
     c.in-Ok-run_scripts.ensures.good (subst (λ t. PrintsText t rig.is_good from to how) text c.print_text-ended.ensures) in
     rigged told (files c.args.files.now) (files c.load_scripts.new.files) from to c.in-Ok.tags c.in-Ok.ensures.ok watched
-    watching c.in-Ok-load_areas.areas opened scripts
-    (subst (λ (f : FilesShown). ReadsScripts c.in-Ok.tags told.scripts f scripts) same known) rig.end
+    watching c.in-Ok-load_areas.areas opened c.rigs_follow.ensures c.rigs_show_watches.ensures
+    scripts (subst (λ (f : FilesShown). ReadsScripts c.in-Ok.tags told.scripts f scripts) same known) rig.end
     c.in-Ok-run_scripts.ensures.ran how printed
 
 pub returns-in-Err-load_watch-clause-paths : goal.returns-in-Err-load_watch-clause-paths
