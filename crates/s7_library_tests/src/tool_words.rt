@@ -19,6 +19,16 @@ type Rig = (
     u64,
 );
 
+/// The words of a rig with tags: the areas, the scripts, the turns, the tag file, the watched file and the rounds.
+type Watch = (
+    &'static str,
+    &'static [&'static str],
+    &'static [u32],
+    Option<&'static str>,
+    Option<&'static str>,
+    u32,
+);
+
 /// The words of a partner: its file, the file of the other one, the host, the port, the seed and the steps.
 type Partner = (
     &'static str,
@@ -33,6 +43,7 @@ type Partner = (
 enum Wanted {
     Run(Run),
     Rig(Rig),
+    Watch(Watch),
     Partner(Partner),
     Usage,
 }
@@ -202,6 +213,56 @@ const RIGS: &[Line] = &[
     ),
 ];
 
+/// Commands that watch tags or may name them, and words that are usage.
+const WATCHES: &[Line] = &[
+    (
+        &["rig", "a", "s"],
+        Wanted::Watch(("a", &["s"], &[], None, None, 1)),
+    ),
+    (
+        &["rig", "a", "s", "--tags", "t"],
+        Wanted::Watch(("a", &["s"], &[], Some("t"), None, 1)),
+    ),
+    (
+        &["rig", "a", "s", "--watch", "w"],
+        Wanted::Watch(("a", &["s"], &[], None, Some("w"), 1)),
+    ),
+    (
+        &["rig", "a", "s", "--watch", "w", "--rounds", "3"],
+        Wanted::Watch(("a", &["s"], &[], None, Some("w"), 3)),
+    ),
+    (
+        &[
+            "rig",
+            "--rounds=10000",
+            "a",
+            "--tags=t",
+            "s",
+            "--watch=w",
+            "u",
+        ],
+        Wanted::Watch(("a", &["s", "u"], &[], Some("t"), Some("w"), 10_000)),
+    ),
+    (
+        &["rig", "a", "s", "--watch="],
+        Wanted::Watch(("a", &["s"], &[], None, Some(""), 1)),
+    ),
+    (
+        &["rig", "a", "s", "--watch", "w", "--turns", "0,3"],
+        Wanted::Watch(("a", &["s"], &[0, 3], None, Some("w"), 1)),
+    ),
+    (
+        &["rig", "a", "s", "--watch", "w", "--turns", "4"],
+        Wanted::Usage,
+    ),
+    (&["rig", "a", "s", "--turns", "2"], Wanted::Usage),
+    (&["rig", "a", "s", "--rounds", "3"], Wanted::Usage),
+    (
+        &["rig", "a", "s", "--tags", "t", "--rounds", "1"],
+        Wanted::Usage,
+    ),
+];
+
 /// Commands of partners, and words that are usage.
 const PARTNERS: &[Line] = &[
     (
@@ -271,6 +332,17 @@ fn is_rig(rig: &RigWords, wanted: &Rig) -> bool {
 }
 
 /// Reports whether the words are these.
+fn is_watch(rig: &RigWords, wanted: &Watch) -> bool {
+    let (areas, scripts, turns, tags, watch, rounds) = *wanted;
+    rig.areas == areas
+        && rig.scripts.as_slice() == scripts
+        && rig.turns.as_slice() == turns
+        && rig.tags == tags
+        && rig.watch == watch
+        && rig.rounds == rounds
+}
+
+/// Reports whether the words are these.
 fn is_partner(partner: &PartnerWords, wanted: &Partner) -> bool {
     let (one, other, host, port, seed, steps) = *wanted;
     partner.one == one
@@ -286,6 +358,7 @@ fn say(words: &Option<ToolWords<'_>>, wanted: &Wanted) -> bool {
     match (words, wanted) {
         (Some(ToolWords::Run(run)), Wanted::Run(wanted)) => is_run(run, wanted),
         (Some(ToolWords::Rig(rig)), Wanted::Rig(wanted)) => is_rig(rig, wanted),
+        (Some(ToolWords::Rig(rig)), Wanted::Watch(wanted)) => is_watch(rig, wanted),
         (Some(ToolWords::Partner(partner)), Wanted::Partner(wanted)) => is_partner(partner, wanted),
         (None, Wanted::Usage) => true,
         _ => false,
@@ -327,6 +400,11 @@ fn unmet_rig(alloc: Global) -> Option<usize> {
     unmet(alloc, RIGS)
 }
 
+/// The first rig with tags that isn't read so.
+fn unmet_watch(alloc: Global) -> Option<usize> {
+    unmet(alloc, WATCHES)
+}
+
 /// The first partner that isn't read so.
 fn unmet_partner(alloc: Global) -> Option<usize> {
     unmet(alloc, PARTNERS)
@@ -337,6 +415,7 @@ fn unmet_partner(alloc: Global) -> Option<usize> {
 fn tool_lines(rt: HostRuntime) {
     assert_eq!(rt; unmet_run(rt.alloc()), None);
     assert_eq!(rt; unmet_rig(rt.alloc()), None);
+    assert_eq!(rt; unmet_watch(rt.alloc()), None);
     assert_eq!(rt; unmet_partner(rt.alloc()), None);
 }
 
