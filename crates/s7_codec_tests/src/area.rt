@@ -3,6 +3,7 @@ ghost use Rattle.std.specs.Prelude.{◌≡◌, IfSome};
 ghost use Rattle.s7_area.specs.Guards.{IsGuard};
 ghost use Rattle.s7_area.specs.Memory.{shape_of};
 
+use crate::rows::all_hold;
 use s7_area::{AreaKey, Areas, Guard, RegisterFault};
 use s7_item::Item;
 use s7_outer::{Memory, Octets};
@@ -117,13 +118,28 @@ const READS: &[(Place, u8, &[u8])] = &[
     ((0x84, 1, 0x01, 1, 5), 0xFF, &[0x00]),
 ];
 
+/// The number of the first row whose read has another answer.
+fn unmet_read(areas: &Areas) -> Option<usize> {
+    for (number, (place, code, octets)) in READS.iter().enumerate() {
+        if !reads(areas, &item_at(*place), *code, octets) {
+            return Some(number);
+        }
+    }
+    None
+}
+
+/// The number of the first such row of the two areas.
+fn unmet_in_reads(alloc: Global) -> Option<usize> {
+    match two_areas(alloc) {
+        Ok(areas) => unmet_read(&areas),
+        Err(_) => Some(0),
+    }
+}
+
 /// Reads of items give the return codes and the octets of the rows.
 #[test]
 fn items_are_read(rt: HostRuntime) {
-    let areas = two_areas(rt.alloc()).expect(&rt, "there is memory");
-    for &(place, code, octets) in READS {
-        assert!(rt; reads(&areas, &item_at(place), code, octets));
-    }
+    all_hold(&rt, unmet_in_reads(rt.alloc()));
 }
 
 /// Items, the octets that are written to them, the return codes, and the octets of data block 1 after that.
@@ -182,13 +198,28 @@ fn writes(areas: &mut Areas, place: Place, octets: &[u8], code: u8) -> bool {
     areas.write(true, &item_at(place), octets) == code
 }
 
+/// The number of the first row whose write has another answer, or leaves other octets.
+fn unmet_write(areas: &mut Areas) -> Option<usize> {
+    for (number, (place, octets, code, left)) in WRITES.iter().enumerate() {
+        if !writes(areas, *place, octets, *code) || !has_octets(areas, DB1, Some(left)) {
+            return Some(number);
+        }
+    }
+    None
+}
+
+/// The number of the first such row of the two areas.
+fn unmet_in_writes(alloc: Global) -> Option<usize> {
+    match two_areas(alloc) {
+        Ok(mut areas) => unmet_write(&mut areas),
+        Err(_) => Some(0),
+    }
+}
+
 /// Writes of items give the return codes of the rows, and leave the octets of the rows.
 #[test]
 fn items_are_written(rt: HostRuntime) {
-    let mut areas = two_areas(rt.alloc()).expect(&rt, "there is memory");
-    for &(place, octets, code, left) in WRITES {
-        assert!(rt; writes(&mut areas, place, octets, code) && has_octets(&areas, DB1, Some(left)));
-    }
+    all_hold(&rt, unmet_in_writes(rt.alloc()));
 }
 
 /// The place of an item that is there.
@@ -221,22 +252,44 @@ fn copied(alloc: Global, level: u8) -> Result<Areas, Memory> {
     guarded(alloc, level)?.copy(alloc)
 }
 
-/// Reports whether areas with the guard of a level, and a copy of them, give these return codes.
+/// Reports whether areas give these return codes.
+fn have_codes(areas: &mut Areas, right: bool, item: &Item, answers: (u8, u8)) -> bool {
+    codes(areas, right, item) == answers
+}
+
+/// Reports whether areas with the guard of a level give these return codes.
 fn guards(alloc: Global, level: u8, right: bool, item: &Item, answers: (u8, u8)) -> bool {
-    let (Ok(mut areas), Ok(mut copy)) = (guarded(alloc, level), copied(alloc, level)) else {
-        return false;
-    };
-    has_guard(&copy, level)
-        && codes(&mut areas, right, item) == answers
-        && codes(&mut copy, right, item) == answers
+    match guarded(alloc, level) {
+        Ok(mut areas) => have_codes(&mut areas, right, item, answers),
+        Err(_) => false,
+    }
+}
+
+/// Reports whether a copy of areas with the guard of a level has this guard, and gives these return codes.
+fn copy_guards(alloc: Global, level: u8, right: bool, item: &Item, answers: (u8, u8)) -> bool {
+    match copied(alloc, level) {
+        Ok(mut copy) => has_guard(&copy, level) && have_codes(&mut copy, right, item, answers),
+        Err(_) => false,
+    }
+}
+
+/// The number of the first row that doesn't hold.
+fn unmet_guard(alloc: Global) -> Option<usize> {
+    for (number, (level, right, place, answers)) in GUARDS.iter().enumerate() {
+        let item = item_at(*place);
+        if !guards(alloc, *level, *right, &item, *answers)
+            || !copy_guards(alloc, *level, *right, &item, *answers)
+        {
+            return Some(number);
+        }
+    }
+    None
 }
 
 /// A guard bars the items that the rows say, in areas and in a copy of them.
 #[test]
 fn guards_bar_items(rt: HostRuntime) {
-    for &(level, right, place, answers) in GUARDS {
-        assert!(rt; guards(rt.alloc(), level, right, &item_at(place), answers));
-    }
+    all_hold(&rt, unmet_guard(rt.alloc()));
 }
 
 /// Writes both areas and guards them. Each area keeps its length.
@@ -262,15 +315,16 @@ fn has_guard(areas: &Areas, level: u8) -> bool {
     areas.guard() == guard(level)
 }
 
-/// A copy of areas takes over octets and a guard that were changed after it was made.
-#[test]
-fn areas_take_over_others(rt: HostRuntime) {
-    let image = taken_over(rt.alloc()).expect(&rt, "there is memory");
-    assert!(rt;
-        has_octets(&image, DB1, Some(&[5, 6, 7, 8]))
-            && has_octets(&image, COUNTERS, Some(&[0, 1, 0, 9]))
-            && has_guard(&image, 3)
-    );
+/// Reports whether a copy of areas takes over octets and a guard that were changed after it was made.
+fn copies_take_over(alloc: Global) -> bool {
+    match taken_over(alloc) {
+        Ok(image) => {
+            has_octets(&image, DB1, Some(&[5, 6, 7, 8]))
+                && has_octets(&image, COUNTERS, Some(&[0, 1, 0, 9]))
+                && has_guard(&image, 3)
+        }
+        Err(_) => false,
+    }
 }
 
 /// Octets 07, `len` of them.
@@ -325,14 +379,22 @@ fn has_data_blocks(areas: &Areas, count: usize) -> bool {
     areas.db_numbers().count() == count
 }
 
-/// Areas that can't be registered are refused, and none of them is there after that.
-#[test]
-fn areas_are_refused(rt: HostRuntime) {
-    let mut areas = two_areas(rt.alloc()).expect(&rt, "there is memory");
+/// Reports whether areas are refused as the rows say, and none of them is there after that.
+fn are_refused(alloc: Global, areas: &mut Areas) -> bool {
     for row in REFUSED {
-        assert!(rt; refuses(rt.alloc(), &mut areas, row));
+        if !refuses(alloc, areas, row) {
+            return false;
+        }
     }
-    assert!(rt; has_data_blocks(&areas, 1));
+    has_data_blocks(areas, 1)
+}
+
+/// Reports whether the two areas refuse areas as the rows say.
+fn refuse(alloc: Global) -> bool {
+    match two_areas(alloc) {
+        Ok(mut areas) => are_refused(alloc, &mut areas),
+        Err(_) => false,
+    }
 }
 
 /// Reports whether an area is unregistered and hands these octets back. It hands none back if it isn't registered.
@@ -353,16 +415,20 @@ fn is_kept_by_copy(alloc: Global, areas: &mut Areas) -> bool {
         && !has_octets(&copy, DB1, None)
 }
 
-/// Areas are registered and unregistered, and a copy keeps an area that is unregistered.
-#[test]
-fn areas_are_registered(rt: HostRuntime) {
-    let mut areas = two_areas(rt.alloc()).expect(&rt, "there is memory");
-    assert!(rt;
-        registers(rt.alloc(), &mut areas, key(0x84, 3), 2_097_152, None)
-            && unregisters(&mut areas, key(0x84, 9), None)
-            && has_data_blocks(&areas, 2)
-            && is_kept_by_copy(rt.alloc(), &mut areas)
-    );
+/// Reports whether an area is registered beside the two, and a copy keeps an area that is unregistered.
+fn take_another(alloc: Global, areas: &mut Areas) -> bool {
+    registers(alloc, areas, key(0x84, 3), 2_097_152, None)
+        && unregisters(areas, key(0x84, 9), None)
+        && has_data_blocks(areas, 2)
+        && is_kept_by_copy(alloc, areas)
+}
+
+/// Reports whether areas are registered and unregistered.
+fn register(alloc: Global) -> bool {
+    match two_areas(alloc) {
+        Ok(mut areas) => take_another(alloc, &mut areas),
+        Err(_) => false,
+    }
 }
 
 /// Reports whether data blocks of one octet are registered, `count` of them.
@@ -375,13 +441,21 @@ fn are_registered(alloc: Global, areas: &mut Areas, count: u16) -> bool {
     true
 }
 
-/// At most 2,048 data blocks are registered, and an area of another kind after them.
-#[test]
-fn data_blocks_are_counted(rt: HostRuntime) {
+/// Reports whether at most 2,048 data blocks are registered, and an area of another kind after them.
+fn are_counted(alloc: Global) -> bool {
     let mut areas = Areas::new();
+    are_registered(alloc, &mut areas, 2_048)
+        && refuses(alloc, &mut areas, &TOO_MANY)
+        && registers(alloc, &mut areas, key(0x83, 0), 1, None)
+}
+
+/// Areas are registered, refused, unregistered and copied, and their data blocks are counted.
+#[test]
+fn areas_are_registered(rt: HostRuntime) {
     assert!(rt;
-        are_registered(rt.alloc(), &mut areas, 2_048)
-            && refuses(rt.alloc(), &mut areas, &TOO_MANY)
-            && registers(rt.alloc(), &mut areas, key(0x83, 0), 1, None)
+        copies_take_over(rt.alloc())
+            && refuse(rt.alloc())
+            && register(rt.alloc())
+            && are_counted(rt.alloc())
     );
 }

@@ -6,7 +6,7 @@ use s7_block::{
     Added, Block, BlockClient, BlockFault, BlockName, Blocks, DownloadSide, Marks, UploadSide,
     db_head, head_agrees,
 };
-use s7_outer::{Buffer, Memory, Octets};
+use s7_outer::{Buffer, Octets};
 use std::alloc::Global;
 
 /// Function 5 of 38 octets: its head, and two octets of its own.
@@ -36,13 +36,6 @@ fn head(number: u16, len: u32) -> [u8; 36] {
 fn has_fields(number: u16, len: u32, first: &[u8], last: &[u8]) -> bool {
     let head = head(number, len);
     &head[6..12] == first && &head[34..] == last
-}
-
-/// The heads of data blocks have the octets of the format.
-#[test]
-fn heads_are_written(rt: HostRuntime) {
-    assert!(rt; head(12, 1_000) == HEAD_12);
-    assert!(rt; has_fields(0x1234, 65_536, b"\x12\x34\x00\x01\x00\x24", b"\xFF\xFF"));
 }
 
 /// Reports whether an image's head is that of a block of this kind and number.
@@ -100,10 +93,17 @@ fn all_agree(offsets: &[usize], wanted: bool) -> bool {
     true
 }
 
-/// An image agrees exactly with the kind, the number and the lengths of its head.
+/// The heads of data blocks have the octets of the format. An image agrees exactly with the kind, the number and the
+/// lengths of its head.
 #[test]
-fn heads_agree(rt: HostRuntime) {
-    assert!(rt; all_agree_as(IMAGES) && all_agree(LOOKED_AT, false) && all_agree(OTHERS, true));
+fn heads_are_written_and_agree(rt: HostRuntime) {
+    assert!(rt;
+        head(12, 1_000) == HEAD_12
+            && has_fields(0x1234, 65_536, b"\x12\x34\x00\x01\x00\x24", b"\xFF\xFF")
+            && all_agree_as(IMAGES)
+            && all_agree(LOOKED_AT, false)
+            && all_agree(OTHERS, true)
+    );
 }
 
 /// Function 5 under another number, which its head has too.
@@ -225,16 +225,17 @@ fn is_copied(alloc: Global, blocks: &Blocks) -> bool {
     }
 }
 
-/// A store takes, replaces, finds, deletes and copies blocks.
-#[test]
-fn blocks_are_stored(rt: HostRuntime) {
-    let mut blocks = Blocks::new(rt.alloc(), 1_024).expect(&rt, "there is memory");
-    assert!(rt;
-        are_inserted(rt.alloc(), &mut blocks)
-            && is_full(rt.alloc(), &mut blocks)
-            && is_deleted(&mut blocks)
-            && is_copied(rt.alloc(), &blocks)
-    );
+/// Reports whether a store takes, replaces, finds, deletes and copies blocks.
+fn are_stored(alloc: Global) -> bool {
+    match Blocks::new(alloc, 1_024) {
+        Ok(mut blocks) => {
+            are_inserted(alloc, &mut blocks)
+                && is_full(alloc, &mut blocks)
+                && is_deleted(&mut blocks)
+                && is_copied(alloc, &blocks)
+        }
+        Err(_) => false,
+    }
 }
 
 /// Blocks with the image of function 5 that a store without room refuses: the kind, the number and the fault.
@@ -246,14 +247,29 @@ const REFUSED: &[(u8, u16, BlockFault)] = &[
     (0x43, 5, BlockFault::Full),
 ];
 
-/// A block with several faults is refused for the first one.
-#[test]
-fn faults_come_in_order(rt: HostRuntime) {
-    let mut blocks = Blocks::new(rt.alloc(), 0).expect(&rt, "there is memory");
+/// Reports whether a store refuses blocks as the rows say.
+fn are_refused(alloc: Global, blocks: &mut Blocks) -> bool {
     for &(kind, number, fault) in REFUSED {
         let name = BlockName { kind, number };
-        assert!(rt; inserts(rt.alloc(), &mut blocks, name, &FC_5, Err(fault)));
+        if !inserts(alloc, blocks, name, &FC_5, Err(fault)) {
+            return false;
+        }
     }
+    true
+}
+
+/// Reports whether a block with several faults is refused for the first one by a store without room.
+fn faults_come_in_order(alloc: Global) -> bool {
+    match Blocks::new(alloc, 0) {
+        Ok(mut blocks) => are_refused(alloc, &mut blocks),
+        Err(_) => false,
+    }
+}
+
+/// A store takes, replaces, finds, deletes and copies blocks, and refuses blocks with faults.
+#[test]
+fn blocks_are_stored(rt: HostRuntime) {
+    assert!(rt; are_stored(rt.alloc()) && faults_come_in_order(rt.alloc()));
 }
 
 /// Marks a function with a number. The number 0 removes the function.
@@ -267,12 +283,12 @@ fn mark(marks: &mut Marks, number: u16, with: u64) {
 }
 
 /// The marks of blocks, after these edits.
-fn marks_of(alloc: Global, blocks: &Blocks, edits: &[(u16, u64)]) -> Result<Marks, Memory> {
-    let mut marks = Marks::of(alloc, blocks)?;
+fn marks_of(alloc: Global, blocks: &Blocks, edits: &[(u16, u64)]) -> Option<Marks> {
+    let mut marks = Marks::of(alloc, blocks).ok()?;
     for &(number, with) in edits {
         mark(&mut marks, number, with);
     }
-    Ok(marks)
+    Some(marks)
 }
 
 /// Reports whether the marks are of these functions with these numbers, where 0 is none.
@@ -290,19 +306,25 @@ fn are_marks(marks: &Marks, wanted: &[(u16, u64)]) -> bool {
     true
 }
 
-/// Reports whether blocks have these marks after these edits, and other marks of them have taken these over.
-fn have_marks(
-    alloc: Global,
-    blocks: &Blocks,
-    edits: &[(u16, u64)],
-    wanted: &[(u16, u64)],
-) -> Result<bool, Memory> {
-    let marks = marks_of(alloc, blocks, edits)?;
-    let mut copy = marks_of(alloc, blocks, &[])?;
+/// Reports whether other marks of the blocks have taken over these, which are so.
+fn are_taken_over(alloc: Global, blocks: &Blocks, marks: &Marks, wanted: &[(u16, u64)]) -> bool {
+    let Some(mut copy) = marks_of(alloc, blocks, &[]) else {
+        return false;
+    };
     if marks.limit() <= copy.limit() {
-        copy.overwrite(&marks);
+        copy.overwrite(marks);
     }
-    Ok(are_marks(&marks, wanted) && are_marks(&copy, wanted))
+    are_marks(&copy, wanted)
+}
+
+/// Reports whether blocks have these marks after these edits, and other marks of them have taken these over.
+fn have_marks(alloc: Global, blocks: &Blocks, edits: &[(u16, u64)], wanted: &[(u16, u64)]) -> bool {
+    match marks_of(alloc, blocks, edits) {
+        Some(marks) => {
+            are_marks(&marks, wanted) && are_taken_over(alloc, blocks, &marks, wanted)
+        }
+        None => false,
+    }
 }
 
 /// Edits of the marks of two functions, and the marks after them.
@@ -330,18 +352,25 @@ fn two_functions(alloc: Global) -> Option<Blocks> {
 /// The number of the first row that doesn't hold.
 fn unmet_marks(alloc: Global, blocks: &Blocks, rows: &[Edited]) -> Option<usize> {
     for (row, (edits, marks)) in rows.iter().enumerate() {
-        if have_marks(alloc, blocks, edits, marks) != Ok(true) {
+        if !have_marks(alloc, blocks, edits, marks) {
             return Some(row);
         }
     }
     None
 }
 
+/// The number of the first row that doesn't hold of a store with two functions.
+fn unmet_row(alloc: Global) -> Option<usize> {
+    match two_functions(alloc) {
+        Some(blocks) => unmet_marks(alloc, &blocks, MARKED),
+        None => Some(0),
+    }
+}
+
 /// Marks of blocks are put and removed as the rows say.
 #[test]
 fn blocks_are_marked(rt: HostRuntime) {
-    let blocks = two_functions(rt.alloc()).expect(&rt, "the functions are inserted");
-    all_hold(&rt, unmet_marks(rt.alloc(), &blocks, MARKED));
+    all_hold(&rt, unmet_row(rt.alloc()));
 }
 
 /// A buffer of room for 2,000 octets. It holds the octets of both parts, if the first has at most 1,900 and the second
@@ -412,19 +441,26 @@ fn gives_slices(side: &mut UploadSide, id: u8, slices: &[(usize, Option<u8>, boo
     is_alone && slice(side, id) == None && !ends(side, other) && ends(side, id) && !ends(side, id)
 }
 
-/// An image of 1,036 octets is sent in five slices.
-#[test]
-fn images_are_sliced(rt: HostRuntime) {
-    let side = sending(rt.alloc(), &[0xAB; 1_035], &[0xCD], 3);
-    let mut side = side.expect(&rt, "the upload begins");
-    assert!(rt; gives_slices(&mut side, 3, SLICES));
+/// Reports whether an image of these octets is sent in these slices as the upload of this number.
+fn is_sliced(
+    alloc: Global,
+    octets: (&[u8], &[u8]),
+    id: u8,
+    slices: &[(usize, Option<u8>, bool)],
+) -> bool {
+    match sending(alloc, octets.0, octets.1, id) {
+        Some(mut side) => gives_slices(&mut side, id, slices),
+        None => false,
+    }
 }
 
-/// An empty image is sent in one slice.
+/// An image of 1,036 octets is sent in five slices, and an empty one in one slice.
 #[test]
-fn an_empty_image_has_one_slice(rt: HostRuntime) {
-    let mut side = sending(rt.alloc(), &[], &[], 1).expect(&rt, "the upload begins");
-    assert!(rt; gives_slices(&mut side, 1, &[(0, None, false)]));
+fn images_are_sliced(rt: HostRuntime) {
+    assert!(rt;
+        is_sliced(rt.alloc(), (&[0xAB; 1_035], &[0xCD]), 3, SLICES)
+            && is_sliced(rt.alloc(), (&[], &[]), 1, &[(0, None, false)])
+    );
 }
 
 /// The answer of a side to the last of these pieces that it takes, and whether it awaits more after that.
@@ -476,12 +512,21 @@ fn is_joined(side: &mut DownloadSide, len: u32, pieces: &[(&[u8], bool)], end: A
         && has_image(side, 0x45, 5, None)
 }
 
-/// Images are joined from their pieces, or dropped.
-#[test]
-fn images_are_joined(rt: HostRuntime) {
-    let mut side = DownloadSide::new(rt.alloc(), 8).expect(&rt, "there is memory");
+/// Reports whether images are joined from their pieces, or dropped, as the rows say.
+fn all_are_joined(side: &mut DownloadSide) -> bool {
     for &(len, pieces, end) in PIECES {
-        assert!(rt; is_joined(&mut side, len, pieces, end));
+        if !is_joined(side, len, pieces, end) {
+            return false;
+        }
+    }
+    true
+}
+
+/// Reports whether a side of a download joins all images.
+fn joins_images(alloc: Global) -> bool {
+    match DownloadSide::new(alloc, 8) {
+        Ok(mut side) => all_are_joined(&mut side),
+        Err(_) => false,
     }
 }
 
@@ -490,14 +535,24 @@ fn takes(client: &mut BlockClient, octets: &[u8], more: bool, answer: Added, ima
     client.is_awaiting() && client.add(octets, more) == answer && client.image() == image
 }
 
-/// A client joins an image from two slices.
-#[test]
-fn a_client_joins_slices(rt: HostRuntime) {
-    let mut client = BlockClient::new(rt.alloc(), 8).expect(&rt, "there is memory");
+/// Reports whether a client joins an image from two slices.
+fn joins_slices(client: &mut BlockClient) -> bool {
     client.begin(3);
-    assert!(rt;
-        takes(&mut client, &[1, 2], true, Added::More, &[1, 2])
-            && takes(&mut client, &[3], false, Added::Last, &[1, 2, 3])
-            && !client.is_awaiting()
-    );
+    takes(client, &[1, 2], true, Added::More, &[1, 2])
+        && takes(client, &[3], false, Added::Last, &[1, 2, 3])
+        && !client.is_awaiting()
+}
+
+/// Reports whether a client joins an image.
+fn joins_image(alloc: Global) -> bool {
+    match BlockClient::new(alloc, 8) {
+        Ok(mut client) => joins_slices(&mut client),
+        Err(_) => false,
+    }
+}
+
+/// Images are joined from their pieces, or dropped, and a client joins an image from two slices.
+#[test]
+fn images_are_joined(rt: HostRuntime) {
+    assert!(rt; joins_images(rt.alloc()) && joins_image(rt.alloc()));
 }

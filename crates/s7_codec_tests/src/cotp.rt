@@ -3,6 +3,7 @@ ghost use Rattle.std.specs.Prelude.{◌≤◌, length};
 ghost use Rattle.s7_cotp.specs.Spelling.{spelling_of_confirm};
 ghost use Rattle.s7_cotp.specs.Told.{connection_of};
 
+use crate::rows::all_hold;
 use s7_cotp::{
     Connection, CotpFault, Joined, Joiner, Tpdu, Tsap, fragments, read_tpdu, write_confirm,
     write_connect, write_data, write_disconnect,
@@ -94,103 +95,119 @@ const SMALL_CONFIRMED: Connection = Connection {
     called: ABSENT,
 };
 
-/// The octets of TPDUs, and the TPDUs as which they are read.
-const CONNECTS: &[(&[u8], Tpdu<'static>)] = &[
-    (&REQUEST, Tpdu::Connect(REQUESTED)),
-    (&CONFIRM, Tpdu::Confirm(CONFIRMED)),
+/// What octets are read as, what is written, or how a message is cut.
+enum Case {
+    /// Octets, and what they are read as.
+    Read(&'static [u8], Result<Tpdu<'static>, CotpFault>),
+    /// Whether a data TPDU is the last of its message, its octets, the number of the octets in which it is written, and
+    /// what eight octets that were `AA` are after that.
+    Data(bool, &'static [u8], usize, &'static [u8; 8]),
+    /// The length of a message, the TPDU size, and the ranges into which the message is cut.
+    Cut(usize, usize, &'static [(usize, usize)]),
+}
+
+/// The cases.
+const CASES: &[Case] = &[
+    // TPDUs are read from their octets.
+    Case::Read(&REQUEST, Ok(Tpdu::Connect(REQUESTED))),
+    Case::Read(&CONFIRM, Ok(Tpdu::Confirm(CONFIRMED))),
     // There is no size.
-    (b"\x06\xE0\0\0\0\x01\0", Tpdu::Connect(BARE)),
+    Case::Read(b"\x06\xE0\0\0\0\x01\0", Ok(Tpdu::Connect(BARE))),
     // Octets after the header are passed over.
-    (b"\x06\xE0\0\0\0\x01\0\xC0\x01\x07", Tpdu::Connect(BARE)),
+    Case::Read(b"\x06\xE0\0\0\0\x01\0\xC0\x01\x07", Ok(Tpdu::Connect(BARE))),
     // The last of two sizes holds.
-    (
+    Case::Read(
         b"\x0C\xE0\0\0\0\x01\0\xC0\x01\x0D\xC0\x01\x07",
-        Tpdu::Connect(SMALL),
+        Ok(Tpdu::Connect(SMALL)),
     ),
     // A parameter that is unknown is passed over.
-    (
+    Case::Read(
         b"\x0C\xE0\0\0\0\x01\0\xC6\x01\x06\xC0\x01\x07",
-        Tpdu::Connect(SMALL),
+        Ok(Tpdu::Connect(SMALL)),
     ),
-    (
+    Case::Read(
         b"\x06\x80\0\x01\0\x01\x80",
-        Tpdu::Disconnect { reason: 0x80 },
+        Ok(Tpdu::Disconnect { reason: 0x80 }),
     ),
-    (b"\x04\x70\0\x01\x02", Tpdu::Reject { cause: 2 }),
-];
-
-/// Data TPDUs, whether they are the last ones of their messages, and their octets. Only the high bit says whether one
-/// is the last.
-const FRAGMENTS: &[(&[u8], bool, &[u8])] = &[
-    (b"\x02\xF0\x80ab", true, b"ab"),
-    (b"\x02\xF0\x00", false, b""),
-    (b"\x02\xF0\x01a", false, b"a"),
-    (b"\x02\xF0\xFFa", true, b"a"),
-];
-
-/// Reports whether octets are read so.
-fn is_read(body: &[u8], wanted: Result<Tpdu<'_>, CotpFault>) -> bool {
-    read_tpdu(body) == wanted
-}
-
-/// TPDUs are read from their octets.
-#[test]
-fn tpdus_are_read(rt: HostRuntime) {
-    for &(body, tpdu) in CONNECTS {
-        assert!(rt; is_read(body, Ok(tpdu)));
-    }
-    for &(body, last, user) in FRAGMENTS {
-        assert!(rt; is_read(body, Ok(Tpdu::Fragment { last, user })));
-    }
-}
-
-/// Octets that aren't a TPDU, and the faults.
-const OTHERS: &[(&[u8], CotpFault)] = &[
-    (b"", CotpFault::BadCode),
-    (b"\x02", CotpFault::BadCode),
-    (b"\x02\x50\x80", CotpFault::BadCode),
-    (b"\x06\xE1\0\0\0\x01\0", CotpFault::BadCode),
-    (b"\x03\xF0\x80\0", CotpFault::ShortHeader),
-    (b"\x02\xF0", CotpFault::ShortHeader),
-    (b"\x05\xE0\0\0\0\x01\0", CotpFault::ShortHeader),
-    (b"\x07\xE0\0\0\0\x01\0", CotpFault::ShortHeader),
-    (b"\x03\x70\0\x01\x02", CotpFault::ShortHeader),
+    Case::Read(b"\x04\x70\0\x01\x02", Ok(Tpdu::Reject { cause: 2 })),
+    // Only the high bit says whether a data TPDU is the last one of its message.
+    Case::Read(
+        b"\x02\xF0\x80ab",
+        Ok(Tpdu::Fragment {
+            last: true,
+            user: b"ab",
+        }),
+    ),
+    Case::Read(
+        b"\x02\xF0\x00",
+        Ok(Tpdu::Fragment {
+            last: false,
+            user: b"",
+        }),
+    ),
+    Case::Read(
+        b"\x02\xF0\x01a",
+        Ok(Tpdu::Fragment {
+            last: false,
+            user: b"a",
+        }),
+    ),
+    Case::Read(
+        b"\x02\xF0\xFFa",
+        Ok(Tpdu::Fragment {
+            last: true,
+            user: b"a",
+        }),
+    ),
+    // Octets that aren't a TPDU are refused.
+    Case::Read(b"", Err(CotpFault::BadCode)),
+    Case::Read(b"\x02", Err(CotpFault::BadCode)),
+    Case::Read(b"\x02\x50\x80", Err(CotpFault::BadCode)),
+    Case::Read(b"\x06\xE1\0\0\0\x01\0", Err(CotpFault::BadCode)),
+    Case::Read(b"\x03\xF0\x80\0", Err(CotpFault::ShortHeader)),
+    Case::Read(b"\x02\xF0", Err(CotpFault::ShortHeader)),
+    Case::Read(b"\x05\xE0\0\0\0\x01\0", Err(CotpFault::ShortHeader)),
+    Case::Read(b"\x07\xE0\0\0\0\x01\0", Err(CotpFault::ShortHeader)),
+    Case::Read(b"\x03\x70\0\x01\x02", Err(CotpFault::ShortHeader)),
     // The size code is 06 or 0E, has two octets, or stands before a good one.
-    (b"\x09\xE0\0\0\0\x01\0\xC0\x01\x06", CotpFault::BadParameter),
-    (b"\x09\xE0\0\0\0\x01\0\xC0\x01\x0E", CotpFault::BadParameter),
-    (
-        b"\x0A\xE0\0\0\0\x01\0\xC0\x02\x0A\x0A",
-        CotpFault::BadParameter,
+    Case::Read(
+        b"\x09\xE0\0\0\0\x01\0\xC0\x01\x06",
+        Err(CotpFault::BadParameter),
     ),
-    (
+    Case::Read(
+        b"\x09\xE0\0\0\0\x01\0\xC0\x01\x0E",
+        Err(CotpFault::BadParameter),
+    ),
+    Case::Read(
+        b"\x0A\xE0\0\0\0\x01\0\xC0\x02\x0A\x0A",
+        Err(CotpFault::BadParameter),
+    ),
+    Case::Read(
         b"\x0C\xE0\0\0\0\x01\0\xC0\x01\x06\xC0\x01\x0A",
-        CotpFault::BadParameter,
+        Err(CotpFault::BadParameter),
     ),
     // A TSAP has no octets, or 17.
-    (b"\x08\xE0\0\0\0\x01\0\xC1\0", CotpFault::BadParameter),
-    (&LONG_TSAP, CotpFault::BadParameter),
+    Case::Read(b"\x08\xE0\0\0\0\x01\0\xC1\0", Err(CotpFault::BadParameter)),
+    Case::Read(&LONG_TSAP, Err(CotpFault::BadParameter)),
     // A parameter ends after the header, though not after the octets.
-    (b"\x08\xE0\0\0\0\x01\0\xC1\x01\x01", CotpFault::BadParameter),
+    Case::Read(
+        b"\x08\xE0\0\0\0\x01\0\xC1\x01\x01",
+        Err(CotpFault::BadParameter),
+    ),
+    // Data TPDUs are written as their octets.
+    Case::Data(true, b"ab", 5, b"\x02\xF0\x80ab\xAA\xAA\xAA"),
+    Case::Data(false, b"c", 4, b"\x02\xF0\0c\xAA\xAA\xAA\xAA"),
+    // Messages are cut into the ranges of their fragments.
+    Case::Cut(0, 128, &[(0, 0)]),
+    Case::Cut(125, 128, &[(0, 125)]),
+    Case::Cut(126, 128, &[(0, 125), (125, 126)]),
+    Case::Cut(8_190, 8_192, &[(0, 8_189), (8_189, 8_190)]),
 ];
-
-/// Octets that aren't a TPDU are refused.
-#[test]
-fn others_are_refused(rt: HostRuntime) {
-    for &(body, fault) in OTHERS {
-        assert!(rt; is_read(body, Err(fault)));
-    }
-}
 
 /// Reports whether the request is written as its 18 octets, and the octet after them is left.
 fn is_connect() -> bool {
     let mut into = [0xAAu8; 20];
     write_connect(&REQUESTED, &mut into) == 18 && into.starts_with(&REQUEST) && into[18] == 0xAA
-}
-
-/// A connect request is written as its octets.
-#[test]
-fn connects_are_written(rt: HostRuntime) {
-    assert!(rt; is_connect());
 }
 
 /// Reports whether a confirm is written in `size` octets, which the room begins with.
@@ -203,20 +220,6 @@ fn is_confirm(confirm: &Connection, size: usize, octets: &[u8]) -> bool
 {
     let mut into = [0xAAu8; 20];
     write_confirm(confirm, &mut into) == size && into.starts_with(octets)
-}
-
-/// Connect confirms are written as their octets.
-#[test]
-fn confirms_are_written(rt: HostRuntime) {
-    let octets = b"\x11\xD0\0\x01\0\x01\0\xC0\x01\x0A\xC1\x02\x01\0\xC2\x02\x01\x02\xAA";
-    assert!(rt; is_confirm(&CONFIRMED, 18, octets));
-    assert!(rt;
-        is_confirm(
-            &SMALL_CONFIRMED,
-            10,
-            b"\x09\xD0\0\x01\0\x01\0\xC0\x01\x07\xAA"
-        )
-    );
 }
 
 /// Reports whether a data TPDU is written in `size` octets, and eight octets that were `AA` are these after that.
@@ -235,14 +238,23 @@ fn is_disconnect(octets: &[u8; 8]) -> bool {
     write_disconnect(1, 0x0203, 0x80, &mut into) == 7 && into == *octets
 }
 
-/// Data TPDUs and a disconnect request are written as their octets.
+/// A connect request, confirms and a disconnect request are written as their octets.
 #[test]
 fn others_are_written(rt: HostRuntime) {
     assert!(rt;
-        is_data(true, b"ab", 5, b"\x02\xF0\x80ab\xAA\xAA\xAA")
-            && is_data(false, b"c", 4, b"\x02\xF0\0c\xAA\xAA\xAA\xAA")
+        is_connect()
+            && is_confirm(
+                &CONFIRMED,
+                18,
+                b"\x11\xD0\0\x01\0\x01\0\xC0\x01\x0A\xC1\x02\x01\0\xC2\x02\x01\x02\xAA"
+            )
+            && is_confirm(
+                &SMALL_CONFIRMED,
+                10,
+                b"\x09\xD0\0\x01\0\x01\0\xC0\x01\x07\xAA"
+            )
+            && is_disconnect(b"\x06\x80\0\x01\x02\x03\x80\xAA")
     );
-    assert!(rt; is_disconnect(b"\x06\x80\0\x01\x02\x03\x80\xAA"));
 }
 
 /// Reports whether a fragment gets this answer, with this message if the answer is `Whole`. If `left` is there, it also
@@ -290,14 +302,24 @@ const JOINED: &[((&[u8], bool), Joined, &[u8], Option<(bool, usize)>)] = &[
     ((b"", true), Joined::TooLong, b"", None),
 ];
 
+/// Reports whether fragments are joined to messages of at most 20 octets as the rows say.
+fn are_joined(joiner: &mut Joiner) -> bool {
+    if joiner.is_open() || joiner.held() != 0 {
+        return false;
+    }
+    for &(fragment, answer, message, left) in JOINED {
+        if !is_answered(joiner, fragment, answer, message, left) {
+            return false;
+        }
+    }
+    true
+}
+
 /// Fragments are joined to messages of at most 20 octets.
 #[test]
 fn fragments_are_joined(rt: HostRuntime) {
     let mut joiner = Joiner::new(rt.alloc(), 20).expect(&rt, "there is memory");
-    assert!(rt; !joiner.is_open() && joiner.held() == 0);
-    for &(fragment, answer, message, left) in JOINED {
-        assert!(rt; is_answered(&mut joiner, fragment, answer, message, left));
-    }
+    assert!(rt; are_joined(&mut joiner));
 }
 
 /// The number of times that a fragment comes, its octets, whether it is the last, and the answer.
@@ -312,24 +334,33 @@ const MANY: &[(usize, &[u8], bool, Joined)] = &[
 /// The message of 64 fragments.
 const WHOLE: &[u8] = b"aaaaaaaaaaaaaaaaaaaaaaaaaaaaaaaaaaaaaaaaaaaaaaaaaaaaaaaaaaaaaaab";
 
+/// Reports whether a fragment comes so often, each time with the answer of its row.
+fn comes(joiner: &mut Joiner, row: &(usize, &[u8], bool, Joined)) -> bool {
+    let (count, user, last, answer) = *row;
+    for _ in 0..count {
+        if !is_answered(joiner, (user, last), answer, WHOLE, None) {
+            return false;
+        }
+    }
+    true
+}
+
+/// Reports whether all fragments come.
+fn all_come(joiner: &mut Joiner) -> bool {
+    for row in MANY {
+        if !comes(joiner, row) {
+            return false;
+        }
+    }
+    true
+}
+
 /// A message has at most 64 fragments.
 #[test]
 fn a_message_has_64_fragments(rt: HostRuntime) {
     let mut joiner = Joiner::new(rt.alloc(), 64).expect(&rt, "there is memory");
-    for &(count, user, last, answer) in MANY {
-        for _ in 0..count {
-            assert!(rt; is_answered(&mut joiner, (user, last), answer, WHOLE, None));
-        }
-    }
+    assert!(rt; all_come(&mut joiner));
 }
-
-/// Lengths of messages, TPDU sizes, and the ranges into which the messages are cut.
-const CUTS: &[(usize, usize, &[(usize, usize)])] = &[
-    (0, 128, &[(0, 0)]),
-    (125, 128, &[(0, 125)]),
-    (126, 128, &[(0, 125), (125, 126)]),
-    (8_190, 8_192, &[(0, 8_189), (8_189, 8_190)]),
-];
 
 /// Reports whether a message is cut into these ranges.
 fn is_cut(len: usize, tpdu: usize, wanted: &[(usize, usize)]) -> bool {
@@ -345,10 +376,27 @@ fn is_cut(len: usize, tpdu: usize, wanted: &[(usize, usize)]) -> bool {
     cut.next() == None
 }
 
-/// Messages are cut into the ranges of the rows.
-#[test]
-fn messages_are_cut(rt: HostRuntime) {
-    for &(len, tpdu, wanted) in CUTS {
-        assert!(rt; is_cut(len, tpdu, wanted));
+/// Reports whether a case holds.
+fn holds(case: &Case) -> bool {
+    match case {
+        Case::Read(body, wanted) => read_tpdu(body) == *wanted,
+        Case::Data(last, user, size, octets) => is_data(*last, user, *size, octets),
+        Case::Cut(len, tpdu, wanted) => is_cut(*len, *tpdu, wanted),
     }
+}
+
+/// The number of the first case that doesn't hold.
+fn unmet(cases: &[Case]) -> Option<usize> {
+    for (number, case) in cases.iter().enumerate() {
+        if !holds(case) {
+            return Some(number);
+        }
+    }
+    None
+}
+
+/// TPDUs are read and written, and messages are cut, as the cases say.
+#[test]
+fn tpdus_are_read_and_written(rt: HostRuntime) {
+    all_hold(&rt, unmet(CASES));
 }

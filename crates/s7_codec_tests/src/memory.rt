@@ -1,6 +1,7 @@
 //! Tests of the objects in memory: links, links that fail, buffers, outputs, files, dials, doors, gates and pipes.
 ghost use Rattle.std.specs.Prelude.{◌<◌};
 
+use crate::rows::all_hold;
 use s7_memory::{
     FailingLink, Fate, HoldGate, MemoryDial, MemoryDoor, MemoryFiles, MemoryLink, MemoryOut,
     PipeEnd, Pipes, Side,
@@ -87,11 +88,12 @@ const MOVED: &[Call] = &[
     Call::Looks(Tick::At(7)),
 ];
 
-/// A link in memory moves at most two octets in a call, and keeps what was written.
-#[test]
-fn a_memory_link_moves_two_octets_in_a_call(rt: HostRuntime) {
-    let mut link = link(rt.alloc(), b"abcde", 2, 3).expect(&rt, "there is memory");
-    assert!(rt; answers_all(&mut link, MOVED) && is_left(&mut link, b"xyz"));
+/// Reports whether a link in memory moves at most two octets in a call, and keeps what was written.
+fn a_link_moves(alloc: Global) -> bool {
+    match link(alloc, b"abcde", 2, 3) {
+        Ok(mut link) => answers_all(&mut link, MOVED) && is_left(&mut link, b"xyz"),
+        Err(_) => false,
+    }
 }
 
 /// What becomes of the first calls of a link that fails.
@@ -126,11 +128,18 @@ fn is_shut(link: &mut FailingLink<MemoryLink>, octets: &[u8]) -> bool {
     has_written && link.inner().is_shut()
 }
 
-/// A failing link counts receives, transmits and looks at the clock alike.
+/// Reports whether a failing link counts receives, transmits and looks at the clock alike.
+fn a_failing_link_counts(alloc: Global) -> bool {
+    match failing(alloc) {
+        Ok(mut link) => answers_all(&mut link, FATED) && is_shut(&mut link, b"x"),
+        Err(_) => false,
+    }
+}
+
+/// Links in memory move two octets in a call, and failing links count all calls.
 #[test]
-fn a_failing_link_counts_all_calls(rt: HostRuntime) {
-    let mut link = failing(rt.alloc()).expect(&rt, "there is memory");
-    assert!(rt; answers_all(&mut link, FATED) && is_shut(&mut link, b"x"));
+fn links_in_memory_move_and_fail(rt: HostRuntime) {
+    assert!(rt; a_link_moves(rt.alloc()) && a_failing_link_counts(rt.alloc()));
 }
 
 /// A buffer of room for four octets. It holds these, if each part has at most two.
@@ -154,13 +163,14 @@ fn are_taken(buffer: &mut Buffer, octets: &[u8]) -> bool {
     taken.as_slice() == octets && taken.into_vec().len() == octets.len()
 }
 
-/// A buffer holds what was added until it is taken.
-#[test]
-fn a_buffer_gives_what_was_added(rt: HostRuntime) {
-    let mut buffer = buffer(rt.alloc(), b"ab", b"cd").expect(&rt, "there is memory");
-    assert!(rt;
-        holds(&buffer, b"abcd", 4) && are_taken(&mut buffer, b"abcd") && holds(&buffer, b"", 0)
-    );
+/// Reports whether a buffer holds what was added until it is taken.
+fn a_buffer_gives(alloc: Global) -> bool {
+    match buffer(alloc, b"ab", b"cd") {
+        Ok(mut buffer) => {
+            holds(&buffer, b"abcd", 4) && are_taken(&mut buffer, b"abcd") && holds(&buffer, b"", 0)
+        }
+        Err(_) => false,
+    }
 }
 
 /// Writes an octet at the second place of a buffer. Reports whether the buffer has three octets.
@@ -173,11 +183,12 @@ fn is_changed(buffer: &mut Buffer, octet: u8) -> bool {
     true
 }
 
-/// The octets of a buffer are changed in place.
-#[test]
-fn a_buffer_is_written_in_place(rt: HostRuntime) {
-    let mut buffer = buffer(rt.alloc(), b"ab", b"c").expect(&rt, "there is memory");
-    assert!(rt; is_changed(&mut buffer, b'x') && holds(&buffer, b"axc", 4));
+/// Reports whether the octets of a buffer are changed in place.
+fn a_buffer_is_written(alloc: Global) -> bool {
+    match buffer(alloc, b"ab", b"c") {
+        Ok(mut buffer) => is_changed(&mut buffer, b'x') && holds(&buffer, b"axc", 4),
+        Err(_) => false,
+    }
 }
 
 /// Reports whether an output takes all octets of a piece.
@@ -185,12 +196,23 @@ fn is_put(out: &mut MemoryOut, piece: &[u8]) -> bool {
     out.put(piece).is_ok()
 }
 
-/// An output keeps the octets for which it has room.
+/// Reports whether an output keeps the octets for which it has room.
+fn an_output_keeps(alloc: Global) -> bool {
+    match MemoryOut::new(alloc, 5) {
+        Ok(mut out) => {
+            is_put(&mut out, b"abc")
+                && !is_put(&mut out, b"defg")
+                && out.text() == b"abcde".as_slice()
+        }
+        Err(_) => false,
+    }
+}
+
+/// A buffer gives what was added, and is written in place, and an output keeps what fits.
 #[test]
-fn an_output_keeps_what_fits(rt: HostRuntime) {
-    let mut out = MemoryOut::new(rt.alloc(), 5).expect(&rt, "there is memory");
+fn buffers_and_outputs_keep_what_was_added(rt: HostRuntime) {
     assert!(rt;
-        is_put(&mut out, b"abc") && !is_put(&mut out, b"defg") && out.text() == b"abcde".as_slice()
+        a_buffer_gives(rt.alloc()) && a_buffer_is_written(rt.alloc()) && an_output_keeps(rt.alloc())
     );
 }
 
@@ -260,11 +282,10 @@ fn are_left(files: &MemoryFiles) -> bool {
     true
 }
 
-/// Files in memory fail at the call that is to fail, and at no other.
-#[test]
-fn files_in_memory_fail_at_the_call(rt: HostRuntime) {
+/// Reports whether files in memory fail at the call that is to fail, and at no other.
+fn files_fail_at_the_call(alloc: Global) -> bool {
     let mut files = MemoryFiles::new();
-    assert!(rt; fail_at_fourth(rt.alloc(), &mut files) && are_left(&files));
+    fail_at_fourth(alloc, &mut files) && are_left(&files)
 }
 
 /// The link of a call, if the call succeeds.
@@ -275,11 +296,10 @@ fn called(dial: &mut MemoryDial<u8>) -> Option<u8> {
     }
 }
 
-/// A dial in memory gives its link once.
-#[test]
-fn a_dial_in_memory_gives_its_link_once(rt: HostRuntime) {
+/// Reports whether a dial in memory gives its link once.
+fn a_dial_gives_its_link_once() -> bool {
     let mut dial = MemoryDial::new(Some(b'a'));
-    assert!(rt; called(&mut dial) == Some(b'a') && called(&mut dial) == None);
+    called(&mut dial) == Some(b'a') && called(&mut dial) == None
 }
 
 /// Reports whether a door gives this link. The link `!` is a failure of the door, and `.` its end.
@@ -307,11 +327,22 @@ fn gives_links(door: &mut MemoryDoor<u8>, wanted: &[u8]) -> bool {
     listens
 }
 
-/// A door in memory gives its links, fails once, and ends.
+/// Reports whether a door in memory gives its links, fails once, and ends.
+fn a_door_gives_its_links(alloc: Global) -> bool {
+    match door(alloc) {
+        Ok(mut door) => gives_links(&mut door, b"a!b.."),
+        Err(_) => false,
+    }
+}
+
+/// Files in memory fail at the call that is to fail, a dial gives its link once, and a door gives its links.
 #[test]
-fn a_door_in_memory_gives_its_links(rt: HostRuntime) {
-    let mut door = door(rt.alloc()).expect(&rt, "there is memory");
-    assert!(rt; gives_links(&mut door, b"a!b.."));
+fn files_dials_and_doors_in_memory_give_and_fail(rt: HostRuntime) {
+    assert!(rt;
+        files_fail_at_the_call(rt.alloc())
+            && a_dial_gives_its_link_once()
+            && a_door_gives_its_links(rt.alloc())
+    );
 }
 
 /// Passes a gate that other threads may pass.
@@ -338,13 +369,21 @@ fn keeps<R: Wait>(rt: &R, passes: &[(u32, u64, bool)]) -> bool {
     true
 }
 
+/// Reports whether gates give up where the rows say so.
+fn all_keep<R: Wait>(rt: &R) -> bool {
+    for passes in PASSES {
+        if !keeps(rt, passes) {
+            return false;
+        }
+    }
+    true
+}
+
 /// A gate delays a link until the request of the other one came, or gives up.
 #[test]
 fn a_gate_holds_until_the_other_came(rt: HostRuntime) {
     pass_shared(&rt, &OpenGate, 1, 0);
-    for passes in PASSES {
-        assert!(rt; keeps(&rt, passes));
-    }
+    assert!(rt; all_keep(&rt));
 }
 
 /// Calls of the ends of pipes with room for four octets, and the numbers of octets that wait for the server and for the
@@ -374,11 +413,26 @@ fn are_held(pipes: &Pipes, server: usize, client: usize) -> bool {
     pipes.held(Side::Server) == server && pipes.held(Side::Client) == client
 }
 
+/// The number of the first call that pipes answer otherwise.
+fn unmet_call(pipes: &mut Pipes) -> Option<usize> {
+    for (number, (side, call, server, client)) in PIPED.iter().enumerate() {
+        if !end_answers(pipes, *side, call) || !are_held(pipes, *server, *client) {
+            return Some(number);
+        }
+    }
+    None
+}
+
+/// The number of the first call that new pipes answer otherwise.
+fn unmet(alloc: Global) -> Option<usize> {
+    match Pipes::new(alloc, 4, 7) {
+        Ok(mut pipes) => unmet_call(&mut pipes),
+        Err(_) => Some(0),
+    }
+}
+
 /// Pipes move the octets for which they have room.
 #[test]
 fn pipes_move_what_fits(rt: HostRuntime) {
-    let mut pipes = Pipes::new(rt.alloc(), 4, 7).expect(&rt, "there is memory");
-    for (side, call, server, client) in PIPED {
-        assert!(rt; end_answers(&mut pipes, *side, call) && are_held(&pipes, *server, *client));
-    }
+    all_hold(&rt, unmet(rt.alloc()));
 }

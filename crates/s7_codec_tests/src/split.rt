@@ -37,43 +37,34 @@ fn is_split(item: &Item, pdu: u16, write: bool, wanted: &[(u16, u32)]) -> bool
     parts.next().is_none()
 }
 
-/// A read of 1,000 bytes is split into five parts.
+/// A read of 1,000 bytes is split into five parts, and a read that fills its parts has no empty part. The greatest PDU
+/// takes a read of 1,902 bytes.
 #[test]
 #[tactic(auto, unfolding(s7_item::specs::Word::size_of))]
-fn a_thousand_bytes_are_five_parts(rt: HostRuntime) {
-    let item = Item {
+fn reads_of_bytes_are_split(rt: HostRuntime) {
+    let thousand = Item {
         count: 1000,
         ..BYTES
     };
-    let wanted = [(222, 0), (222, 1776), (222, 3552), (222, 5328), (112, 7104)];
-    assert!(rt; is_split(&item, 240, false, &wanted));
-}
-
-/// A read that fills its parts has no empty part.
-#[test]
-#[tactic(auto, unfolding(s7_item::specs::Word::size_of))]
-fn no_part_is_empty(rt: HostRuntime) {
-    let item = Item {
+    let two = Item {
         count: 444,
         ..BYTES
     };
-    assert!(rt; is_split(&item, 240, false, &[(222, 0), (222, 1776)]));
-}
-
-/// The greatest PDU takes a read of 1,902 bytes.
-#[test]
-#[tactic(auto, unfolding(s7_item::specs::Word::size_of))]
-fn the_greatest_pdu_takes_1902_bytes(rt: HostRuntime) {
     let most = Item {
         count: 1902,
         ..BYTES
     };
-    assert!(rt; is_split(&most, 1920, false, &[(1902, 0)]));
     let more = Item {
         count: 1903,
         ..BYTES
     };
-    assert!(rt; is_split(&more, 1920, false, &[(1902, 0), (1, 15216)]));
+    let five = [(222, 0), (222, 1776), (222, 3552), (222, 5328), (112, 7104)];
+    assert!(rt;
+        is_split(&thousand, 240, false, &five)
+            && is_split(&two, 240, false, &[(222, 0), (222, 1776)])
+            && is_split(&most, 1920, false, &[(1902, 0)])
+            && is_split(&more, 1920, false, &[(1902, 0), (1, 15216)])
+    );
 }
 
 /// The addresses of parts advance by counters, and by bits in other areas.
@@ -87,14 +78,16 @@ fn counters_and_words_advance_as_their_areas_do(rt: HostRuntime) {
         count: 30,
         address: 5,
     };
-    assert!(rt; is_split(&counters, 64, false, &[(23, 5), (7, 28)]));
     let words = Item {
         word: 0x04,
         count: 20,
         address: 16,
         ..BYTES
     };
-    assert!(rt; is_split(&words, 64, true, &[(14, 16), (6, 240)]));
+    assert!(rt;
+        is_split(&counters, 64, false, &[(23, 5), (7, 28)])
+            && is_split(&words, 64, true, &[(14, 16), (6, 240)])
+    );
 }
 
 /// Reports whether items are packed into groups with these ends, whatever groups were there before.
@@ -125,10 +118,9 @@ fn have_fault(items: &[Item], pdu: u16, fault: PackFault) -> bool {
 /// More than twenty items are refused, and an item that is longer than a PDU.
 #[test]
 fn packing_is_refused(rt: HostRuntime) {
-    assert!(rt; have_fault(&[BYTES; 21], 480, PackFault::TooMany));
     let over = PackFault::ItemOverPdu { place: 1 };
     let mut items = [BYTES; 3];
     items[1].count = 223;
     items[2].count = 224;
-    assert!(rt; have_fault(&items, 240, over));
+    assert!(rt; have_fault(&[BYTES; 21], 480, PackFault::TooMany) && have_fault(&items, 240, over));
 }

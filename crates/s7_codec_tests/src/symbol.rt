@@ -2,7 +2,6 @@
 use crate::rows::all_hold;
 use s7_symbol::{Tag, TagFaultKind, TagKind, ValueFault, octets_of, read_tags, text_of};
 use std::alloc::{AllocError, Global};
-use std::test::Fail;
 
 /// Room for a text or octets.
 type Room = [u8; 512];
@@ -69,319 +68,344 @@ fn is_value(kind: TagKind, text: &[u8], octets: &[u8], room: &mut Room) -> bool 
         && room.starts_with(text)
 }
 
-/// A type, the text of a value, and the octets of the value.
-type Value = (TagKind, &'static [u8], &'static [u8]);
+/// What texts, octets and tag files are read as.
+enum Case {
+    /// A type, the text of a value, and the octets of the value.
+    Value(TagKind, &'static [u8], &'static [u8]),
+    /// A type, a text that isn't a value, and the fault for which it is refused.
+    BadText(TagKind, &'static [u8], ValueFault),
+    /// A type, octets that aren't a value, and the fault for which they are refused.
+    BadOctets(TagKind, &'static [u8], ValueFault),
+    /// The room of a string, octets whose last ones the string doesn't use, and its text.
+    Unused(u8, &'static [u8], &'static [u8]),
+    /// The room of a string, and its number of characters.
+    Length(u8, u8),
+    /// A room for which a string of one more character is refused.
+    TooLong(u8),
+    /// A tag file with a fault, its first faulty line, and the fault of that line.
+    BadLine(&'static [u8], u32, TagFaultKind),
+    /// Lines after those of 2,048 tags, and what the file is read as.
+    LastLine(&'static [u8], Result<usize, (u32, TagFaultKind)>),
+}
 
-/// Values.
-const VALUES: &[Value] = &[
-    (TagKind::Bool, b"0", &[0x00]),
-    (TagKind::Bool, b"1", &[0x01]),
-    (TagKind::Int, b"0", &[0x00, 0x00]),
-    (TagKind::Int, b"-2", &[0xFF, 0xFE]),
-    (TagKind::Int, b"-1", &[0xFF, 0xFF]),
-    (TagKind::Int, b"258", &[0x01, 0x02]),
-    (TagKind::Int, b"-32768", &[0x80, 0x00]),
-    (TagKind::Int, b"32767", &[0x7F, 0xFF]),
-    (TagKind::Dint, b"0", &[0x00, 0x00, 0x00, 0x00]),
-    (TagKind::Dint, b"-1", &[0xFF, 0xFF, 0xFF, 0xFF]),
-    (TagKind::Dint, b"16909060", &[0x01, 0x02, 0x03, 0x04]),
-    (TagKind::Dint, b"-2147483648", &[0x80, 0x00, 0x00, 0x00]),
-    (TagKind::Dint, b"2147483647", &[0x7F, 0xFF, 0xFF, 0xFF]),
-    (TagKind::Bcd, b"907", &[0x09, 0x07]),
-    (TagKind::Bcd, b"9999", &[0x99, 0x99]),
-    (TagKind::S5Time, b"123.1", &[0x11, 0x23]),
-    (TagKind::S5Time, b"0.0", &[0x00, 0x00]),
-    (TagKind::S5Time, b"999.3", &[0x39, 0x99]),
-    (
+/// Texts have the octets of the rows, and these octets have the texts.
+const VALUES: &[Case] = &[
+    Case::Value(TagKind::Bool, b"0", &[0x00]),
+    Case::Value(TagKind::Bool, b"1", &[0x01]),
+    Case::Value(TagKind::Int, b"0", &[0x00, 0x00]),
+    Case::Value(TagKind::Int, b"-2", &[0xFF, 0xFE]),
+    Case::Value(TagKind::Int, b"-1", &[0xFF, 0xFF]),
+    Case::Value(TagKind::Int, b"258", &[0x01, 0x02]),
+    Case::Value(TagKind::Int, b"-32768", &[0x80, 0x00]),
+    Case::Value(TagKind::Int, b"32767", &[0x7F, 0xFF]),
+    Case::Value(TagKind::Dint, b"0", &[0x00, 0x00, 0x00, 0x00]),
+    Case::Value(TagKind::Dint, b"-1", &[0xFF, 0xFF, 0xFF, 0xFF]),
+    Case::Value(TagKind::Dint, b"16909060", &[0x01, 0x02, 0x03, 0x04]),
+    Case::Value(TagKind::Dint, b"-2147483648", &[0x80, 0x00, 0x00, 0x00]),
+    Case::Value(TagKind::Dint, b"2147483647", &[0x7F, 0xFF, 0xFF, 0xFF]),
+    Case::Value(TagKind::Bcd, b"907", &[0x09, 0x07]),
+    Case::Value(TagKind::Bcd, b"9999", &[0x99, 0x99]),
+    Case::Value(TagKind::S5Time, b"123.1", &[0x11, 0x23]),
+    Case::Value(TagKind::S5Time, b"0.0", &[0x00, 0x00]),
+    Case::Value(TagKind::S5Time, b"999.3", &[0x39, 0x99]),
+    Case::Value(
         TagKind::Text(4),
         b"4142",
         &[0x04, 0x02, 0x41, 0x42, 0x00, 0x00],
     ),
-    (
+    Case::Value(
         TagKind::Text(4),
         b"00ff7aa0",
         &[0x04, 0x04, 0x00, 0xFF, 0x7A, 0xA0],
     ),
-    (
+    Case::Value(
         TagKind::Text(4),
         b"-",
         &[0x04, 0x00, 0x00, 0x00, 0x00, 0x00],
     ),
-    (TagKind::Text(1), b"41", &[0x01, 0x01, 0x41]),
-    (TagKind::Text(1), b"-", &[0x01, 0x00, 0x00]),
-    (
+    Case::Value(TagKind::Text(1), b"41", &[0x01, 0x01, 0x41]),
+    Case::Value(TagKind::Text(1), b"-", &[0x01, 0x00, 0x00]),
+    Case::Value(
         TagKind::DateTime,
         b"2024-02-29T13:45:30.123",
         &[0x24, 0x02, 0x29, 0x13, 0x45, 0x30, 0x12, 0x35],
     ),
-    (
+    Case::Value(
         TagKind::DateTime,
         b"1990-01-01T00:00:00.000",
         &[0x90, 0x01, 0x01, 0x00, 0x00, 0x00, 0x00, 0x02],
     ),
-    (
+    Case::Value(
         TagKind::DateTime,
         b"2089-12-31T23:59:59.999",
         &[0x89, 0x12, 0x31, 0x23, 0x59, 0x59, 0x99, 0x97],
     ),
-    (
+    Case::Value(
         TagKind::DateTime,
         b"1992-02-29T01:02:03.004",
         &[0x92, 0x02, 0x29, 0x01, 0x02, 0x03, 0x00, 0x47],
     ),
-    (
+    Case::Value(
         TagKind::DateTime,
         b"2000-02-29T00:00:00.050",
         &[0x00, 0x02, 0x29, 0x00, 0x00, 0x00, 0x05, 0x03],
     ),
-    (
+    Case::Value(
         TagKind::DateTime,
         b"2088-02-29T12:00:00.600",
         &[0x88, 0x02, 0x29, 0x12, 0x00, 0x00, 0x60, 0x01],
     ),
 ];
 
-/// The index of the first row whose text hasn't its octets, or whose octets haven't its text.
-fn unmet_value(rows: &[Value]) -> Option<usize> {
-    for (row, (kind, text, octets)) in rows.iter().enumerate() {
-        if !is_stored(*kind, text, Ok(octets)) || !is_text(*kind, octets, Ok(text)) {
-            return Some(row);
-        }
-    }
-    None
-}
-
-/// Texts have the octets of the rows, and these octets have the texts.
-#[test]
-fn texts_and_octets_are_the_same_values(rt: HostRuntime) {
-    all_hold(&rt, unmet_value(VALUES));
-}
-
-/// A type, a text or octets, and the fault for which they are refused.
-type Refused = (TagKind, &'static [u8], ValueFault);
-
-/// Texts that aren't values.
-const BAD_TEXTS: &[Refused] = &[
-    (TagKind::Bool, b"2", ValueFault::Range),
-    (TagKind::Bool, b"10", ValueFault::Range),
-    (TagKind::Bool, b"00", ValueFault::Form),
-    (TagKind::Bool, b"-1", ValueFault::Form),
-    (TagKind::Bool, b"", ValueFault::Form),
-    (TagKind::Bool, b"true", ValueFault::Form),
-    (TagKind::Int, b"32768", ValueFault::Range),
-    (TagKind::Int, b"-32769", ValueFault::Range),
-    (TagKind::Int, b"65536", ValueFault::Range),
-    (TagKind::Int, b"100000000000000000000000", ValueFault::Range),
-    (TagKind::Int, b"-18446744073709551617", ValueFault::Range),
-    (TagKind::Int, b"007", ValueFault::Form),
-    (TagKind::Int, b"-07", ValueFault::Form),
-    (TagKind::Dint, b"2147483648", ValueFault::Range),
-    (TagKind::Dint, b"-2147483649", ValueFault::Range),
-    (TagKind::Dint, b"4294967296", ValueFault::Range),
-    (TagKind::Dint, b"-0", ValueFault::Form),
-    (TagKind::Dint, b"+7", ValueFault::Form),
-    (TagKind::Dint, b"-", ValueFault::Form),
-    (TagKind::Dint, b"--1", ValueFault::Form),
-    (TagKind::Dint, b" 1", ValueFault::Form),
-    (TagKind::Dint, b"1e3", ValueFault::Form),
-    (TagKind::Dint, b"", ValueFault::Form),
-    (TagKind::Bcd, b"10000", ValueFault::Range),
-    (TagKind::Bcd, b"0907", ValueFault::Form),
-    (TagKind::Bcd, b"-1", ValueFault::Form),
-    (TagKind::Bcd, b"1A", ValueFault::Form),
-    (TagKind::S5Time, b"1000.0", ValueFault::Range),
-    (TagKind::S5Time, b"1.4", ValueFault::Range),
-    (TagKind::S5Time, b"1.10", ValueFault::Range),
-    (TagKind::S5Time, b"01.1", ValueFault::Form),
-    (TagKind::S5Time, b"1.01", ValueFault::Form),
-    (TagKind::S5Time, b"1.2.3", ValueFault::Form),
-    (TagKind::S5Time, b"12", ValueFault::Form),
-    (TagKind::S5Time, b".1", ValueFault::Form),
-    (TagKind::S5Time, b"1.", ValueFault::Form),
-    (TagKind::S5Time, b"-1.1", ValueFault::Form),
-    (TagKind::Text(1), b"4142", ValueFault::Range),
-    (TagKind::Text(4), b"4142434445", ValueFault::Range),
-    (TagKind::Text(4), b"4", ValueFault::Form),
-    (TagKind::Text(4), b"414", ValueFault::Form),
-    (TagKind::Text(4), b"4A", ValueFault::Form),
-    (TagKind::Text(4), b"4g", ValueFault::Form),
-    (TagKind::Text(4), b"--", ValueFault::Form),
-    (TagKind::Text(4), b"", ValueFault::Form),
-    (TagKind::Text(0), b"-", ValueFault::Range),
-    (TagKind::Text(255), b"-", ValueFault::Range),
-    (TagKind::Text(255), b"41", ValueFault::Range),
-    (
+/// Texts that aren't values are refused.
+const BAD_TEXTS: &[Case] = &[
+    Case::BadText(TagKind::Bool, b"2", ValueFault::Range),
+    Case::BadText(TagKind::Bool, b"10", ValueFault::Range),
+    Case::BadText(TagKind::Bool, b"00", ValueFault::Form),
+    Case::BadText(TagKind::Bool, b"-1", ValueFault::Form),
+    Case::BadText(TagKind::Bool, b"", ValueFault::Form),
+    Case::BadText(TagKind::Bool, b"true", ValueFault::Form),
+    Case::BadText(TagKind::Int, b"32768", ValueFault::Range),
+    Case::BadText(TagKind::Int, b"-32769", ValueFault::Range),
+    Case::BadText(TagKind::Int, b"65536", ValueFault::Range),
+    Case::BadText(TagKind::Int, b"100000000000000000000000", ValueFault::Range),
+    Case::BadText(TagKind::Int, b"-18446744073709551617", ValueFault::Range),
+    Case::BadText(TagKind::Int, b"007", ValueFault::Form),
+    Case::BadText(TagKind::Int, b"-07", ValueFault::Form),
+    Case::BadText(TagKind::Dint, b"2147483648", ValueFault::Range),
+    Case::BadText(TagKind::Dint, b"-2147483649", ValueFault::Range),
+    Case::BadText(TagKind::Dint, b"4294967296", ValueFault::Range),
+    Case::BadText(TagKind::Dint, b"-0", ValueFault::Form),
+    Case::BadText(TagKind::Dint, b"+7", ValueFault::Form),
+    Case::BadText(TagKind::Dint, b"-", ValueFault::Form),
+    Case::BadText(TagKind::Dint, b"--1", ValueFault::Form),
+    Case::BadText(TagKind::Dint, b" 1", ValueFault::Form),
+    Case::BadText(TagKind::Dint, b"1e3", ValueFault::Form),
+    Case::BadText(TagKind::Dint, b"", ValueFault::Form),
+    Case::BadText(TagKind::Bcd, b"10000", ValueFault::Range),
+    Case::BadText(TagKind::Bcd, b"0907", ValueFault::Form),
+    Case::BadText(TagKind::Bcd, b"-1", ValueFault::Form),
+    Case::BadText(TagKind::Bcd, b"1A", ValueFault::Form),
+    Case::BadText(TagKind::S5Time, b"1000.0", ValueFault::Range),
+    Case::BadText(TagKind::S5Time, b"1.4", ValueFault::Range),
+    Case::BadText(TagKind::S5Time, b"1.10", ValueFault::Range),
+    Case::BadText(TagKind::S5Time, b"01.1", ValueFault::Form),
+    Case::BadText(TagKind::S5Time, b"1.01", ValueFault::Form),
+    Case::BadText(TagKind::S5Time, b"1.2.3", ValueFault::Form),
+    Case::BadText(TagKind::S5Time, b"12", ValueFault::Form),
+    Case::BadText(TagKind::S5Time, b".1", ValueFault::Form),
+    Case::BadText(TagKind::S5Time, b"1.", ValueFault::Form),
+    Case::BadText(TagKind::S5Time, b"-1.1", ValueFault::Form),
+    Case::BadText(TagKind::Text(1), b"4142", ValueFault::Range),
+    Case::BadText(TagKind::Text(4), b"4142434445", ValueFault::Range),
+    Case::BadText(TagKind::Text(4), b"4", ValueFault::Form),
+    Case::BadText(TagKind::Text(4), b"414", ValueFault::Form),
+    Case::BadText(TagKind::Text(4), b"4A", ValueFault::Form),
+    Case::BadText(TagKind::Text(4), b"4g", ValueFault::Form),
+    Case::BadText(TagKind::Text(4), b"--", ValueFault::Form),
+    Case::BadText(TagKind::Text(4), b"", ValueFault::Form),
+    Case::BadText(TagKind::Text(0), b"-", ValueFault::Range),
+    Case::BadText(TagKind::Text(255), b"-", ValueFault::Range),
+    Case::BadText(TagKind::Text(255), b"41", ValueFault::Range),
+    Case::BadText(
         TagKind::DateTime,
         b"1989-12-31T23:59:59.999",
         ValueFault::Range,
     ),
-    (
+    Case::BadText(
         TagKind::DateTime,
         b"2090-01-01T00:00:00.000",
         ValueFault::Range,
     ),
-    (
+    Case::BadText(
         TagKind::DateTime,
         b"0000-02-29T00:00:00.000",
         ValueFault::Range,
     ),
-    (
+    Case::BadText(
         TagKind::DateTime,
         b"2023-02-29T00:00:00.000",
         ValueFault::Form,
     ),
-    (
+    Case::BadText(
         TagKind::DateTime,
         b"1900-02-29T00:00:00.000",
         ValueFault::Form,
     ),
-    (
+    Case::BadText(
         TagKind::DateTime,
         b"2024-13-01T00:00:00.000",
         ValueFault::Form,
     ),
-    (
+    Case::BadText(
         TagKind::DateTime,
         b"2024-02-29T24:00:00.000",
         ValueFault::Form,
     ),
-    (
+    Case::BadText(
         TagKind::DateTime,
         b"2024-02-29T23:60:00.000",
         ValueFault::Form,
     ),
-    (
+    Case::BadText(
         TagKind::DateTime,
         b"2024-02-29 00:00:00.000",
         ValueFault::Form,
     ),
-    (TagKind::DateTime, b"2024-02-29T00:00:00", ValueFault::Form),
+    Case::BadText(TagKind::DateTime, b"2024-02-29T00:00:00", ValueFault::Form),
 ];
 
-/// The index of the first row whose text isn't refused for its fault.
-fn unrefused_text(rows: &[Refused]) -> Option<usize> {
-    for (row, (kind, text, fault)) in rows.iter().enumerate() {
-        if !is_stored(*kind, text, Err(*fault)) {
-            return Some(row);
-        }
-    }
-    None
-}
-
-/// Texts that aren't values are refused.
-#[test]
-fn texts_are_refused(rt: HostRuntime) {
-    all_hold(&rt, unrefused_text(BAD_TEXTS));
-}
-
-/// Octets that aren't values.
-const BAD_OCTETS: &[Refused] = &[
-    (TagKind::Bool, &[0x02], ValueFault::Range),
-    (TagKind::Bool, &[0xFF], ValueFault::Range),
-    (TagKind::Bool, &[], ValueFault::Form),
-    (TagKind::Bool, &[0x00, 0x01], ValueFault::Form),
-    (TagKind::Int, &[0x01], ValueFault::Form),
-    (TagKind::Int, &[0x00, 0x00, 0x01], ValueFault::Form),
-    (TagKind::Dint, &[0x00, 0x00, 0x01], ValueFault::Form),
-    (
+/// Octets that aren't values are refused.
+const BAD_OCTETS: &[Case] = &[
+    Case::BadOctets(TagKind::Bool, &[0x02], ValueFault::Range),
+    Case::BadOctets(TagKind::Bool, &[0xFF], ValueFault::Range),
+    Case::BadOctets(TagKind::Bool, &[], ValueFault::Form),
+    Case::BadOctets(TagKind::Bool, &[0x00, 0x01], ValueFault::Form),
+    Case::BadOctets(TagKind::Int, &[0x01], ValueFault::Form),
+    Case::BadOctets(TagKind::Int, &[0x00, 0x00, 0x01], ValueFault::Form),
+    Case::BadOctets(TagKind::Dint, &[0x00, 0x00, 0x01], ValueFault::Form),
+    Case::BadOctets(
         TagKind::Dint,
         &[0x00, 0x00, 0x00, 0x00, 0x01],
         ValueFault::Form,
     ),
-    (TagKind::Bcd, &[0x1A, 0x00], ValueFault::Form),
-    (TagKind::Bcd, &[0xA1, 0x00], ValueFault::Form),
-    (TagKind::Bcd, &[0x00, 0xF0], ValueFault::Form),
-    (TagKind::Bcd, &[0x00, 0x0B], ValueFault::Form),
-    (TagKind::Bcd, &[0x00], ValueFault::Form),
-    (TagKind::S5Time, &[0x41, 0x23], ValueFault::Range),
-    (TagKind::S5Time, &[0xF1, 0x23], ValueFault::Range),
-    (TagKind::S5Time, &[0x4A, 0x23], ValueFault::Form),
-    (TagKind::S5Time, &[0x11, 0x2A], ValueFault::Form),
-    (TagKind::S5Time, &[0x11, 0xA2], ValueFault::Form),
-    (TagKind::S5Time, &[0x11], ValueFault::Form),
-    (
+    Case::BadOctets(TagKind::Bcd, &[0x1A, 0x00], ValueFault::Form),
+    Case::BadOctets(TagKind::Bcd, &[0xA1, 0x00], ValueFault::Form),
+    Case::BadOctets(TagKind::Bcd, &[0x00, 0xF0], ValueFault::Form),
+    Case::BadOctets(TagKind::Bcd, &[0x00, 0x0B], ValueFault::Form),
+    Case::BadOctets(TagKind::Bcd, &[0x00], ValueFault::Form),
+    Case::BadOctets(TagKind::S5Time, &[0x41, 0x23], ValueFault::Range),
+    Case::BadOctets(TagKind::S5Time, &[0xF1, 0x23], ValueFault::Range),
+    Case::BadOctets(TagKind::S5Time, &[0x4A, 0x23], ValueFault::Form),
+    Case::BadOctets(TagKind::S5Time, &[0x11, 0x2A], ValueFault::Form),
+    Case::BadOctets(TagKind::S5Time, &[0x11, 0xA2], ValueFault::Form),
+    Case::BadOctets(TagKind::S5Time, &[0x11], ValueFault::Form),
+    Case::BadOctets(
         TagKind::Text(4),
         &[0x04, 0x05, 0x41, 0x42, 0x43, 0x44],
         ValueFault::Range,
     ),
-    (
+    Case::BadOctets(
         TagKind::Text(4),
         &[0x03, 0x02, 0x41, 0x42, 0x43],
         ValueFault::Range,
     ),
-    (
+    Case::BadOctets(
         TagKind::Text(4),
         &[0x05, 0x02, 0x41, 0x42, 0x43, 0x44, 0x45],
         ValueFault::Range,
     ),
-    (
+    Case::BadOctets(
         TagKind::Text(4),
         &[0x04, 0x02, 0x41, 0x42, 0x43],
         ValueFault::Form,
     ),
-    (TagKind::Text(4), &[0x04], ValueFault::Form),
-    (
+    Case::BadOctets(TagKind::Text(4), &[0x04], ValueFault::Form),
+    Case::BadOctets(
         TagKind::Text(4),
         &[0x05, 0x02, 0x41, 0x42, 0x00, 0x00],
         ValueFault::Form,
     ),
-    (TagKind::Text(0), &[0x00, 0x00], ValueFault::Range),
-    (
+    Case::BadOctets(TagKind::Text(0), &[0x00, 0x00], ValueFault::Range),
+    Case::BadOctets(
         TagKind::DateTime,
         &[0x24, 0x02, 0x29, 0x13, 0x45, 0x30, 0x12, 0x36],
         ValueFault::Form,
     ),
-    (
+    Case::BadOctets(
         TagKind::DateTime,
         &[0x24, 0x02, 0x29, 0x13, 0x45, 0x30, 0x12, 0x30],
         ValueFault::Form,
     ),
-    (
+    Case::BadOctets(
         TagKind::DateTime,
         &[0x23, 0x02, 0x29, 0x13, 0x45, 0x30, 0x12, 0x34],
         ValueFault::Form,
     ),
-    (
+    Case::BadOctets(
         TagKind::DateTime,
         &[0x24, 0x02, 0x29, 0x13, 0x45, 0x3A, 0x12, 0x35],
         ValueFault::Form,
     ),
-    (
+    Case::BadOctets(
         TagKind::DateTime,
         &[0x24, 0x02, 0x29, 0x13, 0x45, 0x30, 0x12],
         ValueFault::Form,
     ),
 ];
 
-/// The index of the first row whose octets aren't refused for its fault.
-fn unrefused_octets(rows: &[Refused]) -> Option<usize> {
-    for (row, (kind, octets, fault)) in rows.iter().enumerate() {
-        if !is_text(*kind, octets, Err(*fault)) {
-            return Some(row);
-        }
-    }
-    None
-}
-
-/// Octets that aren't values are refused.
-#[test]
-fn octets_are_refused(rt: HostRuntime) {
-    all_hold(&rt, unrefused_octets(BAD_OCTETS));
-}
-
-/// Rooms of strings, octets whose last ones a string doesn't use, and the texts of the strings.
-const UNUSED: &[(u8, &[u8], &[u8])] = &[
-    (4, &[0x04, 0x01, 0xAB, 0x42, 0x01, 0xFF], b"ab"),
-    (2, &[0x02, 0x00, 0x41, 0x42], b"-"),
+/// Strings of as many characters as there is room for.
+const STRINGS: &[Case] = &[
+    // The octets that a string doesn't use are passed over.
+    Case::Unused(4, &[0x04, 0x01, 0xAB, 0x42, 0x01, 0xFF], b"ab"),
+    Case::Unused(2, &[0x02, 0x00, 0x41, 0x42], b"-"),
+    // Strings have from no character to as many as there is room for.
+    Case::Length(1, 0),
+    Case::Length(1, 1),
+    Case::Length(2, 1),
+    Case::Length(4, 4),
+    Case::Length(127, 126),
+    Case::Length(253, 253),
+    Case::Length(254, 253),
+    Case::Length(254, 254),
+    // Strings of one more character than there is room for are refused.
+    Case::TooLong(1),
+    Case::TooLong(2),
+    Case::TooLong(4),
+    Case::TooLong(127),
+    Case::TooLong(253),
+    Case::TooLong(254),
 ];
 
-/// The octets that a string doesn't use are passed over.
-#[test]
-fn octets_that_a_string_does_not_use_are_passed_over(rt: HostRuntime) {
-    for &(room, octets, text) in UNUSED {
-        assert!(rt; is_text(TagKind::Text(room), octets, Ok(text)));
-    }
-}
+/// Tag files with faults, and tag files of 2,048 tags and more.
+const TAG_FILES: &[Case] = &[
+    // The first faulty line of a tag file is reported, with its fault.
+    Case::BadLine(b"a INT DB1", 1, TagFaultKind::Fields),
+    Case::BadLine(b"a INT DB1 0 ", 1, TagFaultKind::Fields),
+    Case::BadLine(b"a! INTE CT x y", 1, TagFaultKind::Fields),
+    Case::BadLine(b"#\n\n ", 3, TagFaultKind::Fields),
+    Case::BadLine(b"a! INTE CT x", 1, TagFaultKind::Name),
+    Case::BadLine(b" INT DB1 0", 1, TagFaultKind::Name),
+    Case::BadLine(
+        b"abcdefghijklmnopqrstuvwxyzABCDEFG INT DB1 0",
+        1,
+        TagFaultKind::Name,
+    ),
+    Case::BadLine(b"a-b INT DB1 0", 1, TagFaultKind::Name),
+    Case::BadLine(b"a INTE CT x", 1, TagFaultKind::Type),
+    Case::BadLine(b"a int DB1 0", 1, TagFaultKind::Type),
+    Case::BadLine(b"a STRING DB1 0", 1, TagFaultKind::Type),
+    Case::BadLine(b"a STRING[0] DB1 0", 1, TagFaultKind::Type),
+    Case::BadLine(b"a STRING[255] DB1 0", 1, TagFaultKind::Type),
+    Case::BadLine(b"a STRING[4 DB1 0", 1, TagFaultKind::Type),
+    Case::BadLine(b"a STRING[4]x DB1 0", 1, TagFaultKind::Type),
+    Case::BadLine(b"a STRING[-1] DB1 0", 1, TagFaultKind::Type),
+    Case::BadLine(b"a  INT DB1", 1, TagFaultKind::Type),
+    Case::BadLine(b"a INT CT 0", 1, TagFaultKind::Place),
+    Case::BadLine(b"a INT TM 0", 1, TagFaultKind::Place),
+    Case::BadLine(b"a INT DB0 0", 1, TagFaultKind::Place),
+    Case::BadLine(b"a INT DB65536 0", 1, TagFaultKind::Place),
+    Case::BadLine(b"a INT DB 0", 1, TagFaultKind::Place),
+    Case::BadLine(b"a INT MK1 0", 1, TagFaultKind::Place),
+    Case::BadLine(b"a INT MK 2097152", 1, TagFaultKind::Place),
+    Case::BadLine(b"a INT MK 0.0", 1, TagFaultKind::Place),
+    Case::BadLine(b"a INT MK 00000000001", 1, TagFaultKind::Place),
+    Case::BadLine(b"a BOOL MK 0", 1, TagFaultKind::Place),
+    Case::BadLine(b"a BOOL MK 0.8", 1, TagFaultKind::Place),
+    Case::BadLine(b"a BOOL MK 2097152.0", 1, TagFaultKind::Place),
+    Case::BadLine(
+        b"a INT MK 0\nb INT MK 2\r\na BOOL PE 0.0\nx",
+        3,
+        TagFaultKind::Double,
+    ),
+    Case::BadLine(b"a INT MK 0\na INT MK x", 2, TagFaultKind::Place),
+    Case::BadLine(b"a INT MK 0\nx", 2, TagFaultKind::Fields),
+    // A tag file has at most 2,048 tags.
+    Case::LastLine(b"\n# no tag\n", Ok(2_048)),
+    Case::LastLine(b"one_more INT DB1 0", Err((2_049, TagFaultKind::TooMany))),
+    Case::LastLine(b"aaa INT DB1 0", Err((2_049, TagFaultKind::Double))),
+    Case::LastLine(b"one_more INT CT 0", Err((2_049, TagFaultKind::Place))),
+];
 
 /// The text of a string of `count` characters `7A`, at most 256.
 fn string_text(count: usize) -> [u8; 512] {
@@ -408,21 +432,10 @@ fn string_octets(count: u8, more: u8) -> [u8; 257] {
     octets
 }
 
-/// Rooms of strings, and their numbers of characters.
-const LENGTHS: &[(u8, u8)] = &[
-    (1, 0),
-    (1, 1),
-    (2, 1),
-    (4, 4),
-    (127, 126),
-    (253, 253),
-    (254, 253),
-    (254, 254),
-];
-
 /// Reports whether the text of a string of `count` characters in this room has the octets of that string, and these
 /// octets have that text.
-fn is_string(room: u8, count: u8, into: &mut Room) -> bool {
+fn is_string(room: u8, count: u8) -> bool {
+    let mut into = EMPTY;
     let octets = string_octets(count, room.saturating_sub(count));
     let text = string_text(usize::from(count));
     let text = if count == 0 {
@@ -434,25 +447,8 @@ fn is_string(room: u8, count: u8, into: &mut Room) -> bool {
         TagKind::Text(room),
         text,
         &octets[..usize::from(room) + 2],
-        into,
+        &mut into,
     )
-}
-
-/// The index of the first row that is no string of its length.
-fn unmet_string(rows: &[(u8, u8)]) -> Option<usize> {
-    let mut into = EMPTY;
-    for (row, (room, count)) in rows.iter().enumerate() {
-        if !is_string(*room, *count, &mut into) {
-            return Some(row);
-        }
-    }
-    None
-}
-
-/// Strings have from no character to as many as there is room for.
-#[test]
-fn strings_have_as_many_characters_as_there_is_room(rt: HostRuntime) {
-    all_hold(&rt, unmet_string(LENGTHS));
 }
 
 /// Reports whether a string of one more character than this room has is refused.
@@ -464,14 +460,6 @@ fn is_too_long(room: u8) -> bool {
         &text[..2 * count],
         Err(ValueFault::Range),
     )
-}
-
-/// Strings of one more character than there is room for are refused.
-#[test]
-fn longer_strings_are_refused(rt: HostRuntime) {
-    for room in [1, 2, 4, 127, 253, 254] {
-        assert!(rt; is_too_long(room), "{room}");
-    }
 }
 
 /// The text of a number in decimal.
@@ -495,16 +483,21 @@ fn is_whole_number(alloc: Global, number: i16, room: &mut Room) -> Option<bool> 
     Some(is_value(TagKind::Int, text.as_bytes(), &number.to_be_bytes(), room))
 }
 
+/// The first whole number of two octets, by its octets, that has no text that gives it back.
+fn unmet_whole_number(alloc: Global) -> Option<usize> {
+    let mut room = EMPTY;
+    for number in i16::MIN..=i16::MAX {
+        if is_whole_number(alloc, number, &mut room) != Some(true) {
+            return Some(usize::from(u16::from_be_bytes(number.to_be_bytes())));
+        }
+    }
+    None
+}
+
 /// Each whole number of two octets has a text, which gives it back.
 #[test]
 fn all_whole_numbers_of_two_octets(rt: HostRuntime) {
-    let mut room = EMPTY;
-    for number in i16::MIN..=i16::MAX {
-        assert!(rt;
-            is_whole_number(rt.alloc(), number, &mut room) == Some(true),
-            "{number}"
-        );
-    }
+    all_hold(&rt, unmet_whole_number(rt.alloc()));
 }
 
 /// Reports whether the text of this number of four digits has its octets, and the octets have this text.
@@ -515,16 +508,21 @@ fn is_decimal(alloc: Global, number: u16, room: &mut Room) -> Option<bool> {
     Some(is_value(TagKind::Bcd, text.as_bytes(), &octets, room))
 }
 
+/// The first number of four digits that has no text that gives it back.
+fn unmet_number(alloc: Global) -> Option<usize> {
+    let mut room = EMPTY;
+    for number in 0..10_000_u16 {
+        if is_decimal(alloc, number, &mut room) != Some(true) {
+            return Some(usize::from(number));
+        }
+    }
+    None
+}
+
 /// Each number of four digits has a text, which gives it back.
 #[test]
 fn all_numbers_of_four_digits(rt: HostRuntime) {
-    let mut room = EMPTY;
-    for number in 0..10_000_u16 {
-        assert!(rt;
-            is_decimal(rt.alloc(), number, &mut room) == Some(true),
-            "{number}"
-        );
-    }
+    all_hold(&rt, unmet_number(rt.alloc()));
 }
 
 /// Reports whether the text of this time has its octets, and the octets have this text.
@@ -535,18 +533,32 @@ fn is_time(alloc: Global, count: u16, unit: u8, room: &mut Room) -> Option<bool>
     Some(is_value(TagKind::S5Time, text.as_bytes(), &octets, room))
 }
 
+/// The first number of units of a time, of this unit, that has no text that gives it back.
+fn unmet_time(alloc: Global, unit: u8) -> Option<usize> {
+    let mut room = EMPTY;
+    for count in 0..1_000_u16 {
+        if is_time(alloc, count, unit, &mut room) != Some(true) {
+            return Some(usize::from(count));
+        }
+    }
+    None
+}
+
+/// The first number of units of a time of any unit that has no text that gives it back.
+fn unmet_time_of_any(alloc: Global) -> Option<usize> {
+    for unit in 0..4_u8 {
+        let unmet = unmet_time(alloc, unit);
+        if unmet.is_some() {
+            return unmet;
+        }
+    }
+    None
+}
+
 /// Each time has a text, which gives it back.
 #[test]
 fn all_times(rt: HostRuntime) {
-    let mut room = EMPTY;
-    for unit in 0..4_u8 {
-        for count in 0..1_000_u16 {
-            assert!(rt;
-                is_time(rt.alloc(), count, unit, &mut room) == Some(true),
-                "{count}.{unit}"
-            );
-        }
-    }
+    all_hold(&rt, unmet_time_of_any(rt.alloc()));
 }
 
 /// What a tag file is read as: the number of its tags, or its first faulty line and the fault of that line.
@@ -616,69 +628,6 @@ fn tags_are_read(rt: HostRuntime) {
     assert!(rt; answer_to(rt.alloc(), ALL_TYPES) == Ok(9));
 }
 
-/// A tag file, its first faulty line, and the fault of that line.
-type BadLine = (&'static [u8], u32, TagFaultKind);
-
-/// Tag files with faults.
-const BAD_LINES: &[BadLine] = &[
-    (b"a INT DB1", 1, TagFaultKind::Fields),
-    (b"a INT DB1 0 ", 1, TagFaultKind::Fields),
-    (b"a! INTE CT x y", 1, TagFaultKind::Fields),
-    (b"#\n\n ", 3, TagFaultKind::Fields),
-    (b"a! INTE CT x", 1, TagFaultKind::Name),
-    (b" INT DB1 0", 1, TagFaultKind::Name),
-    (
-        b"abcdefghijklmnopqrstuvwxyzABCDEFG INT DB1 0",
-        1,
-        TagFaultKind::Name,
-    ),
-    (b"a-b INT DB1 0", 1, TagFaultKind::Name),
-    (b"a INTE CT x", 1, TagFaultKind::Type),
-    (b"a int DB1 0", 1, TagFaultKind::Type),
-    (b"a STRING DB1 0", 1, TagFaultKind::Type),
-    (b"a STRING[0] DB1 0", 1, TagFaultKind::Type),
-    (b"a STRING[255] DB1 0", 1, TagFaultKind::Type),
-    (b"a STRING[4 DB1 0", 1, TagFaultKind::Type),
-    (b"a STRING[4]x DB1 0", 1, TagFaultKind::Type),
-    (b"a STRING[-1] DB1 0", 1, TagFaultKind::Type),
-    (b"a  INT DB1", 1, TagFaultKind::Type),
-    (b"a INT CT 0", 1, TagFaultKind::Place),
-    (b"a INT TM 0", 1, TagFaultKind::Place),
-    (b"a INT DB0 0", 1, TagFaultKind::Place),
-    (b"a INT DB65536 0", 1, TagFaultKind::Place),
-    (b"a INT DB 0", 1, TagFaultKind::Place),
-    (b"a INT MK1 0", 1, TagFaultKind::Place),
-    (b"a INT MK 2097152", 1, TagFaultKind::Place),
-    (b"a INT MK 0.0", 1, TagFaultKind::Place),
-    (b"a INT MK 00000000001", 1, TagFaultKind::Place),
-    (b"a BOOL MK 0", 1, TagFaultKind::Place),
-    (b"a BOOL MK 0.8", 1, TagFaultKind::Place),
-    (b"a BOOL MK 2097152.0", 1, TagFaultKind::Place),
-    (
-        b"a INT MK 0\nb INT MK 2\r\na BOOL PE 0.0\nx",
-        3,
-        TagFaultKind::Double,
-    ),
-    (b"a INT MK 0\na INT MK x", 2, TagFaultKind::Place),
-    (b"a INT MK 0\nx", 2, TagFaultKind::Fields),
-];
-
-/// The index of the first row whose file hasn't its first faulty line.
-fn unmet_line(alloc: Global, rows: &[BadLine]) -> Option<usize> {
-    for (row, (text, line, kind)) in rows.iter().enumerate() {
-        if answer_to(alloc, text) != Err((*line, *kind)) {
-            return Some(row);
-        }
-    }
-    None
-}
-
-/// The first faulty line of a tag file is reported, with its fault.
-#[test]
-fn first_faulty_lines_are_reported(rt: HostRuntime) {
-    all_hold(&rt, unmet_line(rt.alloc(), BAD_LINES));
-}
-
 /// The name of the tag of this number, which no other number below 17,576 has.
 fn name_of(number: usize) -> [u8; 3] {
     [
@@ -699,20 +648,72 @@ fn lines_before(alloc: Global, last: &[u8]) -> Result<Vec<u8>, AllocError> {
     Ok(text)
 }
 
-/// Lines after those of 2,048 tags, and what the file is read as.
-const LAST_LINES: &[(&[u8], Result<usize, (u32, TagFaultKind)>)] = &[
-    (b"\n# no tag\n", Ok(2_048)),
-    (b"one_more INT DB1 0", Err((2_049, TagFaultKind::TooMany))),
-    (b"aaa INT DB1 0", Err((2_049, TagFaultKind::Double))),
-    (b"one_more INT CT 0", Err((2_049, TagFaultKind::Place))),
-];
-
-/// A tag file has at most 2,048 tags.
-#[test]
-fn a_file_has_2048_tags_at_most(rt: HostRuntime) -> Result<(), Fail> {
-    for &(last, answer) in LAST_LINES {
-        let text = lines_before(rt.alloc(), last)?;
-        assert!(rt; answer_to(rt.alloc(), text.as_slice()) == answer);
+/// Reports whether 2,048 tags and these lines after them are read so.
+fn are_read(alloc: Global, last: &[u8], answer: &Result<usize, (u32, TagFaultKind)>) -> bool {
+    match lines_before(alloc, last) {
+        Ok(text) => answer_to(alloc, text.as_slice()) == *answer,
+        Err(_) => false,
     }
-    Ok(())
+}
+
+/// Reports whether a case holds.
+fn is_met(alloc: Global, case: &Case) -> bool {
+    match case {
+        Case::Value(kind, text, octets) => {
+            is_stored(*kind, text, Ok(octets)) && is_text(*kind, octets, Ok(text))
+        }
+        Case::BadText(kind, text, fault) => is_stored(*kind, text, Err(*fault)),
+        Case::BadOctets(kind, octets, fault) => is_text(*kind, octets, Err(*fault)),
+        Case::Unused(room, octets, text) => is_text(TagKind::Text(*room), octets, Ok(text)),
+        Case::Length(room, count) => is_string(*room, *count),
+        Case::TooLong(room) => is_too_long(*room),
+        Case::BadLine(text, line, kind) => answer_to(alloc, text) == Err((*line, *kind)),
+        Case::LastLine(last, answer) => are_read(alloc, last, answer),
+    }
+}
+
+/// The number of the first case that doesn't hold.
+fn unmet(alloc: Global, cases: &[Case]) -> Option<usize> {
+    for (number, case) in cases.iter().enumerate() {
+        if !is_met(alloc, case) {
+            return Some(number);
+        }
+    }
+    None
+}
+
+/// The number of the first value that doesn't hold. Each table stands in a function of its own, so that the test is
+/// cheap to prove.
+fn unmet_value(alloc: Global) -> Option<usize> {
+    unmet(alloc, VALUES)
+}
+
+/// The number of the first text that isn't refused.
+fn unmet_text(alloc: Global) -> Option<usize> {
+    unmet(alloc, BAD_TEXTS)
+}
+
+/// The number of the first octets that aren't refused.
+fn unmet_octets(alloc: Global) -> Option<usize> {
+    unmet(alloc, BAD_OCTETS)
+}
+
+/// The number of the first string that doesn't hold.
+fn unmet_string(alloc: Global) -> Option<usize> {
+    unmet(alloc, STRINGS)
+}
+
+/// The number of the first tag file that is read otherwise.
+fn unmet_file(alloc: Global) -> Option<usize> {
+    unmet(alloc, TAG_FILES)
+}
+
+/// Values are read and written, and tag files are read, as the cases say.
+#[test]
+fn values_and_tag_files_are_read(rt: HostRuntime) {
+    all_hold(&rt, unmet_value(rt.alloc()));
+    all_hold(&rt, unmet_text(rt.alloc()));
+    all_hold(&rt, unmet_octets(rt.alloc()));
+    all_hold(&rt, unmet_string(rt.alloc()));
+    all_hold(&rt, unmet_file(rt.alloc()));
 }

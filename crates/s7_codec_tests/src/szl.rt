@@ -1,8 +1,10 @@
 //! Tests of status lists: the lists of the server, their fields, and images that are joined from slices.
+use crate::rows::all_hold;
 use s7_szl::{
     SzlAdded, SzlJoin, read_component, read_mode, read_order_code, read_pdu, read_protection,
     write_table,
 };
+use std::alloc::Global;
 
 /// The image of list 0000.
 const DIRECTORY: [u8; 20] = [
@@ -61,15 +63,74 @@ const STOP: [u8; 28] = [
     0x00, 0x00, 0x00, 0x00, 0x00, 0x00, 0x00, 0x00, 0x00, 0x00, 0x00, 0x00,
 ];
 
-/// Lists: the number, the index, whether the controller runs, and the image.
-const LISTS: &[(u16, u16, bool, &[u8])] = &[
-    (0x0000, 0, true, &DIRECTORY),
-    (0x0011, 0, true, &IDENTIFICATION),
-    (0x001C, 0, false, &COMPONENTS),
-    (0x0131, 1, true, &COMMUNICATION),
-    (0x0232, 4, false, &PROTECTION),
-    (0x0424, 0, true, &RUN),
-    (0x0424, 0, false, &STOP),
+/// What status lists are written as, and what their images say.
+enum Case {
+    /// A list: its number, its index, whether the controller runs, and the image.
+    List(u16, u16, bool, &'static [u8]),
+    /// The number and the index of a list that the server doesn't have.
+    NoList(u16, u16),
+    /// An image, and whether it says that the controller runs, or that it is stopped.
+    Mode(&'static [u8], Option<bool>),
+    /// An offset and an octet with which the image of list 0424 doesn't say whether the controller runs.
+    NoMode(usize, u8),
+    /// An image, and its PDU length.
+    Pdu(&'static [u8], Option<u16>),
+    /// An image, and its order code.
+    OrderCode(&'static [u8], &'static [u8; 20]),
+    /// An image, and its level of protection.
+    Protection(&'static [u8], u16),
+    /// The index of a component of list 001C, and its text.
+    Text(u16, Option<[u8; 32]>),
+}
+
+/// The cases.
+const CASES: &[Case] = &[
+    // The status lists of the server are written as their images.
+    Case::List(0x0000, 0, true, &DIRECTORY),
+    Case::List(0x0011, 0, true, &IDENTIFICATION),
+    Case::List(0x001C, 0, false, &COMPONENTS),
+    Case::List(0x0131, 1, true, &COMMUNICATION),
+    Case::List(0x0232, 4, false, &PROTECTION),
+    Case::List(0x0424, 0, true, &RUN),
+    Case::List(0x0424, 0, false, &STOP),
+    // Other status lists aren't there.
+    Case::NoList(0x0012, 0),
+    Case::NoList(0x0111, 1),
+    Case::NoList(0x0011, 1),
+    Case::NoList(0x0131, 0),
+    Case::NoList(0x0232, 0),
+    Case::NoList(0x0424, 1),
+    // The fields of status lists are read.
+    Case::Mode(&RUN, Some(true)),
+    Case::Mode(&STOP, Some(false)),
+    Case::OrderCode(&IDENTIFICATION, b"S7SERVER AREA BOOK  "),
+    Case::Pdu(&COMMUNICATION, Some(1920)),
+    Case::Protection(&PROTECTION, 1),
+    Case::Text(
+        7,
+        Some(*b"S7SERVER PLC\0\0\0\0\0\0\0\0\0\0\0\0\0\0\0\0\0\0\0\0"),
+    ),
+    Case::Text(3, Some([0; 32])),
+    Case::Text(6, None),
+    // Images of other lists, and other octets, don't have the fields.
+    Case::NoMode(0, 0x77),
+    Case::NoMode(1, 0x77),
+    Case::NoMode(2, 0x77),
+    Case::NoMode(3, 0x77),
+    Case::NoMode(4, 0x77),
+    Case::NoMode(5, 0x77),
+    Case::NoMode(6, 0x77),
+    Case::NoMode(7, 0x77),
+    // There are only 27 octets.
+    Case::Mode(
+        b"\x04\x24\0\0\0\x14\0\x01\x51\x44\xFF\x08\0\0\0\0\0\0\0\0\0\0\0\0\0\0\0",
+        None,
+    ),
+    Case::Mode(b"", None),
+    Case::Mode(b"\x04\x24\0\0\0\x14\0\0", None),
+    Case::Mode(&COMPONENTS, None),
+    Case::NoMode(11, 0x03),
+    Case::Pdu(&PROTECTION, None),
 ];
 
 /// Reports whether all octets are `EE`, as they were before a list was written.
@@ -91,82 +152,6 @@ fn is_written(id: u16, index: u16, running: bool, len: Option<usize>, image: &[u
         && are_left(&into[image.len()..])
 }
 
-/// The status lists of the server are written as their images.
-#[test]
-fn lists_are_written(rt: HostRuntime) {
-    for &(id, index, running, image) in LISTS {
-        assert!(rt; is_written(id, index, running, Some(image.len()), image));
-    }
-}
-
-/// Numbers and indices of lists that the server doesn't have.
-const NO_LISTS: &[(u16, u16)] = &[
-    (0x0012, 0),
-    (0x0111, 1),
-    (0x0011, 1),
-    (0x0131, 0),
-    (0x0232, 0),
-    (0x0424, 1),
-];
-
-/// Other status lists aren't there.
-#[test]
-fn other_lists_are_not_there(rt: HostRuntime) {
-    for &(id, index) in NO_LISTS {
-        assert!(rt; is_written(id, index, true, None, &[]));
-    }
-}
-
-/// Reports whether an image says that the controller runs, or that it is stopped.
-fn has_mode(image: &[u8], mode: Option<bool>) -> bool {
-    read_mode(image) == mode
-}
-
-/// Reports whether an image has this PDU length.
-fn has_pdu(image: &[u8], pdu: Option<u16>) -> bool {
-    read_pdu(image) == pdu
-}
-
-/// Reports whether an image has this order code.
-fn has_order_code(image: &[u8], code: &[u8; 20]) -> bool {
-    read_order_code(image) == Some(*code)
-}
-
-/// Reports whether an image has this level of protection.
-fn has_protection(image: &[u8], level: u16) -> bool {
-    read_protection(image) == Some(level)
-}
-
-/// The texts of components: the index, and the text.
-const TEXTS: &[(u16, Option<[u8; 32]>)] = &[
-    (
-        7,
-        Some(*b"S7SERVER PLC\0\0\0\0\0\0\0\0\0\0\0\0\0\0\0\0\0\0\0\0"),
-    ),
-    (3, Some([0; 32])),
-    (6, None),
-];
-
-/// Reports whether an image has this text of the component of an index.
-fn has_text(image: &[u8], index: u16, text: Option<[u8; 32]>) -> bool {
-    read_component(image, index) == text
-}
-
-/// The fields of status lists are read.
-#[test]
-fn fields_are_read(rt: HostRuntime) {
-    assert!(rt;
-        has_mode(&RUN, Some(true))
-            && has_mode(&STOP, Some(false))
-            && has_order_code(&IDENTIFICATION, b"S7SERVER AREA BOOK  ")
-            && has_pdu(&COMMUNICATION, Some(1920))
-            && has_protection(&PROTECTION, 1)
-    );
-    for &(index, text) in TEXTS {
-        assert!(rt; has_text(&COMPONENTS, index, text));
-    }
-}
-
 /// The image of list 0424 with another octet at this offset.
 fn with_octet(place: usize, octet: u8) -> [u8; 28] {
     let mut image = RUN;
@@ -176,24 +161,36 @@ fn with_octet(place: usize, octet: u8) -> [u8; 28] {
     image
 }
 
-/// Images that don't say whether the controller runs.
-const NO_MODES: &[&[u8]] = &[
-    b"\x04\x24\0\0\0\x14\0\x01\x51\x44\xFF\x08\0\0\0\0\0\0\0\0\0\0\0\0\0\0\0", // 27 octets
-    b"",
-    b"\x04\x24\0\0\0\x14\0\0",
-    &COMPONENTS,
-];
+/// Reports whether a case holds.
+fn holds(case: &Case) -> bool {
+    match case {
+        Case::List(id, index, running, image) => {
+            is_written(*id, *index, *running, Some(image.len()), image)
+        }
+        Case::NoList(id, index) => is_written(*id, *index, true, None, &[]),
+        Case::Mode(image, mode) => read_mode(image) == *mode,
+        Case::NoMode(place, octet) => read_mode(&with_octet(*place, *octet)) == None,
+        Case::Pdu(image, pdu) => read_pdu(image) == *pdu,
+        Case::OrderCode(image, code) => read_order_code(image) == Some(**code),
+        Case::Protection(image, level) => read_protection(image) == Some(*level),
+        Case::Text(index, text) => read_component(&COMPONENTS, *index) == *text,
+    }
+}
 
-/// Images of other lists, and other octets, don't have the fields.
+/// The number of the first case that doesn't hold.
+fn unmet(cases: &[Case]) -> Option<usize> {
+    for (number, case) in cases.iter().enumerate() {
+        if !holds(case) {
+            return Some(number);
+        }
+    }
+    None
+}
+
+/// Status lists are written as their images, and their fields are read, as the cases say.
 #[test]
-fn other_images_have_no_field(rt: HostRuntime) {
-    for place in 0..8 {
-        assert!(rt; has_mode(&with_octet(place, 0x77), None));
-    }
-    for &image in NO_MODES {
-        assert!(rt; has_mode(image, None));
-    }
-    assert!(rt; has_mode(&with_octet(11, 0x03), None) && has_pdu(&PROTECTION, None));
+fn lists_are_written_and_fields_are_read(rt: HostRuntime) {
+    all_hold(&rt, unmet(CASES));
 }
 
 /// A slice that a join takes, whether more come, and the answer.
@@ -227,13 +224,6 @@ fn is_joined(join: &mut SzlJoin) -> bool {
         }
     }
     join.image() == COMPONENTS.as_slice()
-}
-
-/// An image is joined from three slices, twice.
-#[test]
-fn slices_are_joined(rt: HostRuntime) {
-    let mut join = SzlJoin::new(rt.alloc()).expect(&rt, "there is memory");
-    assert!(rt; is_joined(&mut join) && is_joined(&mut join));
 }
 
 /// The image of list 0424 whose head says that there are two records.
@@ -273,14 +263,14 @@ fn joins_all(join: &mut SzlJoin, slices: &[Slice]) -> bool {
     true
 }
 
-/// Slices that don't make an image are refused until the join is cleared.
-#[test]
-fn other_slices_are_bad(rt: HostRuntime) {
-    let mut join = SzlJoin::new(rt.alloc()).expect(&rt, "there is memory");
+/// Reports whether a join answers the slices of all rows so, and has the image of list 0424 after that.
+fn has_joined(join: &mut SzlJoin) -> bool {
     for slices in SLICES {
-        assert!(rt; joins_all(&mut join, slices));
+        if !joins_all(join, slices) {
+            return false;
+        }
     }
-    assert!(rt; join.image() == RUN.as_slice());
+    join.image() == RUN.as_slice()
 }
 
 /// Reports whether a join takes 8,448 octets, and answers these as the last ones so.
@@ -288,11 +278,39 @@ fn is_filled(join: &mut SzlJoin, last: &[u8], added: SzlAdded) -> bool {
     join.add_plain(&[0xEE; 8448], true) == SzlAdded::More && join.add_plain(last, false) == added
 }
 
-/// An image of 8,448 octets is joined, and none of more.
+/// Reports whether an image of 8,448 octets is joined, and none of more.
+fn holds_8448(join: &mut SzlJoin) -> bool {
+    is_filled(join, &[], SzlAdded::Whole) && is_filled(join, &[0xEE], SzlAdded::Bad)
+}
+
+/// Reports whether a new join joins list 001C from its slices, twice.
+fn joins_a_list(alloc: Global) -> bool {
+    match SzlJoin::new(alloc) {
+        Ok(mut join) => is_joined(&mut join) && is_joined(&mut join),
+        Err(_) => false,
+    }
+}
+
+/// Reports whether a new join refuses slices that don't make an image until it is cleared.
+fn refuses_others(alloc: Global) -> bool {
+    match SzlJoin::new(alloc) {
+        Ok(mut join) => has_joined(&mut join),
+        Err(_) => false,
+    }
+}
+
+/// Reports whether a new join joins an image of 8,448 octets, and none of more.
+fn joins_8448_octets(alloc: Global) -> bool {
+    match SzlJoin::new(alloc) {
+        Ok(mut join) => holds_8448(&mut join),
+        Err(_) => false,
+    }
+}
+
+/// Slices are joined to images, or refused.
 #[test]
-fn an_image_has_8448_octets(rt: HostRuntime) {
-    let mut join = SzlJoin::new(rt.alloc()).expect(&rt, "there is memory");
+fn slices_are_joined(rt: HostRuntime) {
     assert!(rt;
-        is_filled(&mut join, &[], SzlAdded::Whole) && is_filled(&mut join, &[0xEE], SzlAdded::Bad)
+        joins_a_list(rt.alloc()) && refuses_others(rt.alloc()) && joins_8448_octets(rt.alloc())
     );
 }

@@ -1,5 +1,6 @@
 //! Tests of packets: a stream that is cut into them, their faults and limits, and packets that are written.
 
+use crate::rows::all_hold;
 use s7_tpkt::{Cutter, Fed, FedState, write_packet};
 
 /// A stream of three packets: a connect request, a negotiation and a read.
@@ -74,33 +75,10 @@ fn gives_bodies(size: usize) -> bool {
     count == 3
 }
 
-/// A stream gives the same bodies in pieces of each size.
-#[test]
-fn bodies_are_the_same_for_any_cut(rt: HostRuntime) {
-    for size in [1, 23, 78] {
-        assert!(rt; gives_bodies(size));
-    }
-}
-
 /// Reports whether `taken` octets of a piece are taken, and the cutter comes to this state.
 fn comes_to(cutter: &mut Cutter, piece: &[u8], taken: usize, state: FedState) -> bool {
     cutter.feed(piece) == Fed { taken, state }
 }
-
-/// Pieces, the numbers of their octets that are taken, the states after them, and the numbers of octets that are held.
-const STATES: &[(&[u8], usize, FedState, usize)] = &[
-    (b"", 0, FedState::More, 0),
-    (b"\x03\x00\x00", 3, FedState::More, 3),
-    (b"\x04", 1, FedState::BadVersion, 1),
-    (b"\x04\x00\x00\x07", 1, FedState::BadVersion, 1),
-    (b"\x03\x00\x00\x03", 4, FedState::BadLength, 4),
-    (b"\x03\x00\x00\x06\x02\xF0", 4, FedState::BadLength, 4),
-    (b"\x03\x00\x00\x07\x02\xF0\x80", 7, FedState::Whole, 0),
-    (b"\x03\xFF\x00\x07\x02\xF0\x80\x03", 7, FedState::Whole, 0),
-    (b"\x03\x00\x20\x07", 4, FedState::More, 4),
-    (b"\x03\x00\x20\x08\x02", 4, FedState::TooLong, 4),
-    (b"\x03\x00\xFF\xFF\x02", 4, FedState::TooLong, 4),
-];
 
 /// Reports whether a piece leads to a state, which stays after another piece if it isn't `More`.
 fn comes_to_stay(piece: &[u8], taken: usize, state: FedState, held: usize) -> bool {
@@ -110,14 +88,6 @@ fn comes_to_stay(piece: &[u8], taken: usize, state: FedState, held: usize) -> bo
         return comes;
     }
     comes && comes_to(&mut cutter, &[0x03, 0x00], 0, state) && cutter.held() == held
-}
-
-/// A piece leads to its state at the octet that decides it, and the state stays.
-#[test]
-fn states_come_at_their_octets_and_stay(rt: HostRuntime) {
-    for &(piece, taken, state, held) in STATES {
-        assert!(rt; comes_to_stay(piece, taken, state, held));
-    }
 }
 
 /// A cutter with this limit. `None` is the limit of a new cutter.
@@ -130,13 +100,6 @@ fn cutter_of(limit: Option<u16>) -> Cutter {
     cutter
 }
 
-/// Limits, headers, the states after them, and the numbers of octets that the rest of the packet has.
-const LIMITS: &[(Option<u16>, &[u8], FedState, usize)] = &[
-    (None, b"\x03\x00\x20\x07", FedState::More, 8_195),
-    (Some(1_031), b"\x03\x00\x04\x07", FedState::More, 1_027),
-    (Some(1_031), b"\x03\x00\x04\x08", FedState::TooLong, 0),
-];
-
 /// Reports whether a header leads to this state, and `rest` octets of ample others are taken if it is `More`.
 fn is_kept(limit: Option<u16>, header: &[u8], state: FedState, rest: usize) -> bool {
     let mut cutter = cutter_of(limit);
@@ -144,20 +107,6 @@ fn is_kept(limit: Option<u16>, header: &[u8], state: FedState, rest: usize) -> b
         && (state != FedState::More
             || comes_to(&mut cutter, &[0xAA; 10_000], rest, FedState::Whole))
 }
-
-/// A packet as long as the limit is whole, and a longer one is refused.
-#[test]
-fn limits_are_exact(rt: HostRuntime) {
-    for &(limit, header, state, rest) in LIMITS {
-        assert!(rt; is_kept(limit, header, state, rest));
-    }
-}
-
-/// Bodies, the headers of their packets, and the lengths of the packets.
-const PACKETS: &[(&[u8], &[u8; 4], usize)] = &[
-    (&[0x02, 0xF0, 0x80], b"\x03\x00\x00\x07", 7),
-    (&[0x02; 508], b"\x03\x00\x02\x00", 512),
-];
 
 /// Reports whether a packet of `size` octets is this header and the body, and the octets after it are left.
 fn is_packet(body: &[u8], header: &[u8; 4], size: usize) -> bool {
@@ -172,10 +121,67 @@ fn is_packet(body: &[u8], header: &[u8; 4], size: usize) -> bool {
         && &into[end..end + 2] == [0xAA, 0xAA].as_slice()
 }
 
-/// Packets are written with their headers.
-#[test]
-fn packets_are_written(rt: HostRuntime) {
-    for &(body, header, size) in PACKETS {
-        assert!(rt; is_packet(body, header, size));
+/// What a cutter takes and gives, or a packet that is written.
+enum Case {
+    /// The size of pieces in which the stream gives its bodies.
+    Cut(usize),
+    /// A piece, the number of its octets that are taken, the state after it, and the number of octets that are held.
+    State(&'static [u8], usize, FedState, usize),
+    /// A limit, a header, the state after it, and the number of octets that the rest of the packet has.
+    Limit(Option<u16>, &'static [u8], FedState, usize),
+    /// A body, the header of its packet, and the length of the packet.
+    Packet(&'static [u8], &'static [u8; 4], usize),
+}
+
+/// The cases.
+const CASES: &[Case] = &[
+    // A stream gives the same bodies in pieces of each size.
+    Case::Cut(1),
+    Case::Cut(23),
+    Case::Cut(78),
+    // A piece leads to its state at the octet that decides it, and the state stays.
+    Case::State(b"", 0, FedState::More, 0),
+    Case::State(b"\x03\x00\x00", 3, FedState::More, 3),
+    Case::State(b"\x04", 1, FedState::BadVersion, 1),
+    Case::State(b"\x04\x00\x00\x07", 1, FedState::BadVersion, 1),
+    Case::State(b"\x03\x00\x00\x03", 4, FedState::BadLength, 4),
+    Case::State(b"\x03\x00\x00\x06\x02\xF0", 4, FedState::BadLength, 4),
+    Case::State(b"\x03\x00\x00\x07\x02\xF0\x80", 7, FedState::Whole, 0),
+    Case::State(b"\x03\xFF\x00\x07\x02\xF0\x80\x03", 7, FedState::Whole, 0),
+    Case::State(b"\x03\x00\x20\x07", 4, FedState::More, 4),
+    Case::State(b"\x03\x00\x20\x08\x02", 4, FedState::TooLong, 4),
+    Case::State(b"\x03\x00\xFF\xFF\x02", 4, FedState::TooLong, 4),
+    // A packet as long as the limit is whole, and a longer one is refused.
+    Case::Limit(None, b"\x03\x00\x20\x07", FedState::More, 8_195),
+    Case::Limit(Some(1_031), b"\x03\x00\x04\x07", FedState::More, 1_027),
+    Case::Limit(Some(1_031), b"\x03\x00\x04\x08", FedState::TooLong, 0),
+    // Packets are written with their headers.
+    Case::Packet(&[0x02, 0xF0, 0x80], b"\x03\x00\x00\x07", 7),
+    Case::Packet(&[0x02; 508], b"\x03\x00\x02\x00", 512),
+];
+
+/// Reports whether a case holds.
+fn holds(case: &Case) -> bool {
+    match *case {
+        Case::Cut(size) => gives_bodies(size),
+        Case::State(piece, taken, state, held) => comes_to_stay(piece, taken, state, held),
+        Case::Limit(limit, header, state, rest) => is_kept(limit, header, state, rest),
+        Case::Packet(body, header, size) => is_packet(body, header, size),
     }
+}
+
+/// The number of the first case that doesn't hold.
+fn unmet(cases: &[Case]) -> Option<usize> {
+    for (number, case) in cases.iter().enumerate() {
+        if !holds(case) {
+            return Some(number);
+        }
+    }
+    None
+}
+
+/// Streams are cut into packets, and packets are written, as the cases say.
+#[test]
+fn packets_are_cut_and_written(rt: HostRuntime) {
+    all_hold(&rt, unmet(CASES));
 }

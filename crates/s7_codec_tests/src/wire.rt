@@ -1,6 +1,7 @@
 //! Tests of octets on a link: messages that go out in packets, inboxes, outboxes and TPDU sizes.
 ghost use Rattle.std.specs.Prelude.{◌<◌};
 
+use crate::rows::all_hold;
 use s7_memory::MemoryLink;
 use s7_outer::{Got, Memory, Octets, Sent};
 use s7_wire::{Inbox, MOST_MESSAGE, Outbox, PIECE, put_message, tpdu_size};
@@ -132,12 +133,20 @@ fn goes_out(alloc: Global, code: u8, message: &[&[u8]], packets: &[&[u8]]) -> Re
     Ok(sent(&mut line, code, &message) == Some(packets.len()) && has_sent(&line, &packets))
 }
 
-/// Messages go out in packets that the TPDU size allows.
+/// The number of the first row whose message goes out otherwise.
+fn unmet_message(alloc: Global) -> Option<usize> {
+    for (number, (code, message, packets)) in MESSAGES.iter().enumerate() {
+        if goes_out(alloc, *code, message, packets) != Ok(true) {
+            return Some(number);
+        }
+    }
+    None
+}
+
+/// Messages go out in the packets of the rows.
 #[test]
 fn messages_go_out_in_fragments(rt: HostRuntime) {
-    for &(code, message, packets) in MESSAGES {
-        assert!(rt; goes_out(rt.alloc(), code, message, packets) == Ok(true));
-    }
+    all_hold(&rt, unmet_message(rt.alloc()));
 }
 
 /// Calls of an inbox: the number of octets that are used first, the number that is asked for after that, the answer of
@@ -161,16 +170,32 @@ fn gives(
     is_advanced(inbox, used) && refilled(inbox, line, most) == got && inbox.as_slice() == octets
 }
 
+/// The number of the first call that a new inbox answers otherwise.
+fn unmet_call(line: &mut MemoryLink) -> Option<usize> {
+    let mut inbox = Inbox::new();
+    if !inbox.is_empty() {
+        return Some(0);
+    }
+    for (number, call) in CALLS.iter().enumerate() {
+        if !gives(&mut inbox, line, *call) {
+            return Some(number);
+        }
+    }
+    None
+}
+
+/// The number of the first such call over a link that gives seven octets, three in a call.
+fn unmet_refill(alloc: Global) -> Option<usize> {
+    match line(alloc, b"\x11\x22\x33\x44\x55\x66\x77", 3) {
+        Ok(mut line) => unmet_call(&mut line),
+        Err(_) => Some(0),
+    }
+}
+
 /// An inbox gives the octets that its link gave, and the end.
 #[test]
 fn an_inbox_gives_what_a_link_gave(rt: HostRuntime) {
-    let input = b"\x11\x22\x33\x44\x55\x66\x77";
-    let mut line = line(rt.alloc(), input, 3).expect(&rt, "there is memory");
-    let mut inbox = Inbox::new();
-    assert!(rt; inbox.is_empty());
-    for &call in CALLS {
-        assert!(rt; gives(&mut inbox, &mut line, call));
-    }
+    all_hold(&rt, unmet_refill(rt.alloc()));
 }
 
 /// An outbox with two bodies. It is empty if a body has fewer than 3 octets or more than 2,000.
@@ -223,17 +248,18 @@ fn sends_all(outbox: &mut Outbox, line: &mut MemoryLink) -> bool {
     true
 }
 
-/// An outbox sends the packets of the bodies that were put, and is used again.
-#[test]
-fn an_outbox_sends_what_was_put(rt: HostRuntime) {
-    assert!(rt; Outbox::new().is_empty());
-    let mut line = line(rt.alloc(), b"", 2).expect(&rt, "there is memory");
+/// Reports whether an outbox sends the packets of the bodies that were put, and is used again.
+fn sends_what_was_put(line: &mut MemoryLink) -> bool {
     let mut outbox = outbox_of(b"\x02\xF0\x80", b"\x02\xF0\x00\x99");
-    assert!(rt;
-        sends_all(&mut outbox, &mut line)
-            && has_sent(&line, BOTH)
-            && is_used_again(&mut outbox, &mut line)
-    );
+    sends_all(&mut outbox, line) && has_sent(line, BOTH) && is_used_again(&mut outbox, line)
+}
+
+/// Reports whether an outbox does so over a link that moves two octets in a call.
+fn an_outbox_sends(alloc: Global) -> bool {
+    match line(alloc, b"", 2) {
+        Ok(mut line) => Outbox::new().is_empty() && sends_what_was_put(&mut line),
+        Err(_) => false,
+    }
 }
 
 /// Reports whether an inbox takes 8,192 octets of a link in the first receive, and 8 in the second. The first ones are
@@ -245,19 +271,37 @@ fn takes_8192(line: &mut MemoryLink) -> bool {
         && refilled(&mut inbox, line, PIECE) == Some(Got::Bytes(8))
 }
 
-/// 8,200 octets are more than a receive takes, and fewer than the link moves in a call.
-#[test]
-fn a_receive_has_room_for_all_that_fits(rt: HostRuntime) {
-    let mut line = line(rt.alloc(), &[7; 8_200], 10_000).expect(&rt, "there is memory");
-    assert!(rt; takes_8192(&mut line));
+/// Reports whether a receive has room for all that fits. 8,200 octets are more than a receive takes, and fewer than the
+/// link moves in a call.
+fn a_receive_has_room(alloc: Global) -> bool {
+    match line(alloc, &[7; 8_200], 10_000) {
+        Ok(mut line) => takes_8192(&mut line),
+        Err(_) => false,
+    }
 }
 
-/// A transmit is offered all octets of an outbox.
-#[test]
-fn a_transmit_is_offered_all_that_waits(rt: HostRuntime) {
-    let mut line = line(rt.alloc(), b"", 10_000).expect(&rt, "there is memory");
+/// Reports whether a transmit is offered all octets of an outbox.
+fn is_offered_all(line: &mut MemoryLink) -> bool {
     let mut outbox = outbox_of(&[1; 2_000], &[2; 1_000]);
-    assert!(rt; flushed(&mut outbox, &mut line) == Some(Sent::Bytes(3_008)) && outbox.is_empty());
+    flushed(&mut outbox, line) == Some(Sent::Bytes(3_008)) && outbox.is_empty()
+}
+
+/// Reports whether a transmit is offered all that waits.
+fn a_transmit_is_offered_all(alloc: Global) -> bool {
+    match line(alloc, b"", 10_000) {
+        Ok(mut line) => is_offered_all(&mut line),
+        Err(_) => false,
+    }
+}
+
+/// An outbox sends what was put, a receive has room for all that fits, and a transmit is offered all that waits.
+#[test]
+fn links_are_offered_all_that_fits(rt: HostRuntime) {
+    assert!(rt;
+        an_outbox_sends(rt.alloc())
+            && a_receive_has_room(rt.alloc())
+            && a_transmit_is_offered_all(rt.alloc())
+    );
 }
 
 /// The codes of TPDU sizes, and the sizes.
@@ -276,10 +320,18 @@ fn is_size(code: u8, size: u16) -> bool {
     code >= 7 && code <= 13 && tpdu_size(code) == size
 }
 
+/// The number of the first row whose code isn't that of its size.
+fn unmet_size() -> Option<usize> {
+    for (number, (code, size)) in SIZES.iter().enumerate() {
+        if !is_size(*code, *size) {
+            return Some(number);
+        }
+    }
+    None
+}
+
 /// The codes of TPDU sizes have their sizes.
 #[test]
 fn a_code_is_a_tpdu_size(rt: HostRuntime) {
-    for &(code, size) in SIZES {
-        assert!(rt; is_size(code, size));
-    }
+    all_hold(&rt, unmet_size());
 }
