@@ -18,3 +18,6 @@ pub mod FormLemmas
 pub mod DataFitLemmas
 pub mod FitLemmas
 pub mod RunLemmas
+pub mod HeldLemmas
+pub mod CodeLemmas
+pub mod CauseLemmas

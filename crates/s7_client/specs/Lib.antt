@@ -6,4 +6,5 @@ pub mod Polling
 pub mod Form
 pub mod Fit
 pub mod Runs
+pub mod Causes
 pub mod Completions

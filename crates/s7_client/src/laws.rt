@@ -1,4 +1,5 @@
 //! Laws of results and of telegrams. They do nothing at run time.
+ghost use Rattle.s7_client.specs.Causes.{CodesTellOfLinks, ConnectsAreGranted, OctetsEndOtherwise};
 ghost use Rattle.s7_client.specs.Form.{EndsHaveForm};
 ghost use Rattle.s7_client.specs.Fit.{JobsAskAll, TelegramsFit};
 
@@ -24,4 +25,24 @@ pub fn telegrams_fit()
 /// may be asked: as many are unanswered as jobs were granted, or an answer refuses, or no question is left.
 pub fn jobs_ask_all()
     ensures { JobsAskAll }
+{}
+
+/// A law: the code of an end that follows from octets, or from the transmission of a disconnect request, is none of the
+/// three that only the link gives: 00090000 and 000A0000, that a transmit or a receive failed, and 02000000, that the
+/// link wasn't ready in as many polls as allowed.
+pub fn octets_end_otherwise()
+    ensures { OctetsEndOtherwise }
+{}
+
+/// A law: the code of a job that was carried out tells what became of its link. The link failed exactly once if the
+/// code is 00090000 or 000A0000, and otherwise not at all. It wasn't ready as often as allowed if the code is 02000000,
+/// and otherwise less often. Its stream ended only if the code is 00020000.
+pub fn codes_tell_of_links()
+    ensures { CodesTellOfLinks }
+{}
+
+/// A law: a connect on a client that isn't connected leaves it connected exactly if its code is 0. The PDU that was
+/// granted is then from 64 to the one asked for, and the last sequence is 1.
+pub fn connects_are_granted()
+    ensures { ConnectsAreGranted }
 {}

@@ -17,6 +17,8 @@ pub use completion::Completion;
 pub use connection::Connection;
 pub use counter::Counter;
 pub use job::{Polled, StartCause, StartFault};
-pub use laws::{ends_have_form, telegrams_fit};
+pub use laws::{
+    codes_tell_of_links, connects_are_granted, ends_have_form, octets_end_otherwise, telegrams_fit,
+};
 pub use op::{op_of, tell};
 pub use s7_dialogue::{Config, ItemList, Job, JobResult, codes};
