@@ -1,0 +1,16 @@
+-- Which bank an area is in: a data block in the one of its number, every other area in the first. This is this
+-- profile's own.
+use Rattle.std.specs.Prelude.{ℕ, ◌%◌, ◌==◌, if◌then◌else◌}
+use Rattle.s7_item.specs.Codes.{data_blocks}
+use Rattle.s7_item.specs.declared.item.Item.{Item}
+use Rattle.s7_area.specs.declared.key.AreaKey.{AreaKey}
+
+-- the bank of an area of this kind and number, among so many banks
+abbrev pub bank_of : ℕ → ℕ → ℕ → ℕ
+bank_of banks area number = if area == data_blocks then number % banks else 0
+
+abbrev pub bank_of_key : ℕ → AreaKey → ℕ
+bank_of_key banks key = bank_of banks key.area key.number
+
+abbrev pub bank_of_item : ℕ → Item → ℕ
+bank_of_item banks item = bank_of banks item.area item.db

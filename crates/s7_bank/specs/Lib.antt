@@ -1,0 +1,5 @@
+pub mod Areas
+pub mod Seats
+pub mod Sharing
+pub mod BankLegal
+pub mod BankLaws
