@@ -65,6 +65,15 @@ module _ {M R P : Type 0} {g : Ghosts M R P} where
   ShowTheSame olds news =
       (caller_of news ≡ caller_of olds) × (callers_of news ≡ callers_of olds) × (next_of news ≡ next_of olds)
 
+  -- the caller of the seat at a bank; 0 for a bank that isn't there
+  abbrev pub name_in : Option (Option (Seat M R P g)) → ℕ
+  name_in None = 0
+  name_in (Some None) = 0
+  name_in (Some (Some seat)) = caller seat
+
+  abbrev pub caller_at : List (Option (Seat M R P g)) → ℕ → ℕ
+  caller_at seats bank = name_in (slice_get seats bank)
+
   -- A CALL AT A BANK was made by the seat there; the seats at the other banks stay.
   pub record IsCall (halls : List (Hall M R P)) (olds news : List (Option (Seat M R P g))) (bank : ℕ) : Type 0 where
     pub hall : Hall M R P

@@ -1,10 +1,14 @@
 //! The seats of a caller, one at each bank.
-ghost use Rattle.std.specs.Prelude.{◌≡◌, ◌<◌, Some, None, [], slice_get, slice_set};
+ghost use Rattle.std.specs.Prelude.{◌≡◌, ◌<◌, ℕ, Some, None, [], slice_get, slice_index, slice_set};
 ghost use Rattle.arrayvec.specs.ArrayVec.{array_vec_len};
+ghost use Rattle.s7_bank.specs.Seats.{caller_at};
 
 use arrayvec::ArrayVec;
 use s7_turn::{Machine, Seat};
 use std::mem;
+
+/// The greatest number of banks.
+const MOST_BANKS: usize = 16;
 
 /// The right to make calls in one caller's name at each bank. It allocates nothing.
 #[derive(Drop)]
@@ -20,6 +24,27 @@ impl<M: Machine> BankSeat<M> {
     {
         BankSeat {
             seats: ArrayVec::new(),
+        }
+    }
+
+    /// The caller in whose name it makes calls at each bank; 0 for a bank that isn't there.
+    pub fn callers(&self) -> [u32; 16]
+        ensures { (bank : ℕ) → bank < 16 → slice_index result bank ≡ caller_at self.now.seats.items bank }
+    {
+        let mut callers = [0; MOST_BANKS];
+        for bank in 0..MOST_BANKS {
+            callers[bank] = self.caller_at(bank);
+        }
+        callers
+    }
+
+    /// The caller in whose name it makes calls at a bank; 0 for a bank that isn't there.
+    fn caller_at(&self, bank: usize) -> u32
+        ensures { result ≡ caller_at self.now.seats.items bank }
+    {
+        match self.seats.as_slice().get(bank) {
+            Some(Some(seat)) => seat.caller(),
+            Some(None) | None => 0,
         }
     }
 
