@@ -1,12 +1,11 @@
 -- Calls for parts of telegrams make legal histories.
-use Rattle.std.proofs.Common.{◌≡◌, ◌⊎◌, inl, inr, ℕ, ◌+◌, ◌<◌, ◌≤◌, Bool, true, false, true≢false, eqb, eq-eqb, List, [], ◌∷◌, length, map, refl, ap, sym, ◌∙◌, subst, append_assoc, length-append, arith}
+use Rattle.std.proofs.Common.{◌≡◌, ◌⊎◌, inl, inr, ℕ, ◌+◌, ◌≤◌, Bool, true, false, true≢false, eqb, eq-eqb, List, [], ◌∷◌, length, map, refl, ap, sym, ◌∙◌, append_assoc, length-append, arith}
 use Rattle.std.specs.Prelude.{◌++◌, if◌then◌else◌}
 use Rattle.std.specs.List.{AllByRecursion}
 use Rattle.std.proofs.lemmas.List.{append-nil}
 use Rattle.s7_turn.specs.declared.view.Entry.{Entry as Call}
-use Rattle.s7_turn.specs.Histories.{entry, has, calls, places_from, Agrees, Each, replay}
+use Rattle.s7_turn.specs.Histories.{entry, has, places_from, Agrees, Each}
 use Rattle.s7_plant.specs.declared.request.Ask.{Ask}
-use Rattle.s7_plant.specs.Replies.{Said}
 use Rattle.s7_plant.specs.State.{State}
 use Rattle.s7_session.specs.Books.{History, own}
 use Rattle.s7_session.specs.Entry.{Entry, answered}

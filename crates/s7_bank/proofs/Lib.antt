@@ -1,4 +1,5 @@
 pub mod ListLemmas
 pub mod SeatLemmas
 pub mod SharingLemmas
+pub mod OpeningLemmas
 pub mod LegalLemmas

@@ -1,6 +1,7 @@
 -- Elements of lists by their indices, where an element is replaced, appended or removed.
-use Rattle.std.proofs.Common.{◌≡◌, ◌⊎◌, inl, inr, ℕ, zero, suc, ◌+◌, ◌<◌, List, [], ◌∷◌, length, Option, Some, None, slice_get, slice_set, get_or, subst, below_more, refl, ap, sym, ◌∙◌, arith}
+use Rattle.std.proofs.Common.{◌≡◌, ◌⊎◌, inl, inr, ℕ, zero, suc, ◌+◌, ◌<◌, List, [], ◌∷◌, length, Some, None, slice_get, slice_set, get_or, below_more, append_assoc, refl, ap, sym, ◌∙◌, arith}
 use Rattle.std.specs.Prelude.{◌++◌, unwrap_or, remove}
+use Rattle.std.proofs.lemmas.List.{append-nil, nil_from_length}
 
 pub same_some : {X : Type 0} (x y : X) → Some x ≡ Some y → x ≡ y
 same_some x y e = ap (λ o. unwrap_or o x) e
@@ -93,3 +94,16 @@ numbers_more f xs i x l so is =
     below_more (λ j. get_or (slice_set xs i x) j 0 ≡ f j) i
     (λ j below. get_or_set_other xs i j x (λ e. absurd (omega (arith, below, e))) ∙ so j below)
     (get_or_set_same xs i x l ∙ is)
+
+-- ---- a walk over a list: the elements taken, and those left
+
+pub walk_more : {A : Type 0} (taken left left' all : List A) (x : A) → taken ++ left ≡ all → left ≡ x ∷ left' → taken ++ x ∷ [] ++ left' ≡ all
+walk_more taken left left' all x e h = append_assoc taken (x ∷ []) left' ∙ (ap (λ l. taken ++ l) (sym h) ∙ e)
+
+pub walk_left : {A : Type 0} (left left' : List A) (x : A) (n n' : ℕ) → left ≡ x ∷ left' → n' + 1 ≡ n → n ≡ length left → n' ≡ length left'
+walk_left left left' x n n' h e k =
+    let d = ap length h in
+    omega arith
+
+pub walk_end : {A : Type 0} (taken left all : List A) → taken ++ left ≡ all → length left ≡ 0 → taken ≡ all
+walk_end taken left all e h = sym (append-nil taken) ∙ (ap (λ l. taken ++ l) (sym (nil_from_length left h)) ∙ e)

@@ -1,5 +1,5 @@
 -- Seats that are split, joined or closed at one bank after another.
-use Rattle.std.proofs.Common.{◌≡◌, ℕ, zero, suc, ◌+◌, ◌<◌, ◌≤◌, List, [], ◌∷◌, length, Option, Some, None, slice_get, slice_set, refl, ap, sym, ◌∙◌, subst, append_assoc, arith, below_more}
+use Rattle.std.proofs.Common.{◌≡◌, ℕ, suc, ◌+◌, ◌<◌, ◌≤◌, List, [], ◌∷◌, length, Option, Some, None, slice_get, slice_set, ap, sym, ◌∙◌, subst, append_assoc, arith, below_more}
 use Rattle.std.specs.Prelude.{◌++◌, IsSome, slice_index_or, remove}
 use Rattle.std.specs.Option.{option_or}
 use Rattle.std.proofs.lemmas.Option.{slice_get_within, get_or_from_slice_get}
@@ -7,10 +7,10 @@ use Rattle.s7_turn.specs.declared.machine.Machine.{Ghosts}
 use Rattle.s7_turn.specs.declared.hall.Hall.{Hall}
 use Rattle.s7_turn.specs.declared.hall.Seat.{Seat}
 use Rattle.s7_turn.specs.Seats.{IsOf, caller, callers, next}
-use Rattle.s7_bank.specs.Seats.{AreSeated, IsSeatAt, AreNamed, IsSeatOf, caller_of, callers_of, next_of}
+use Rattle.s7_bank.specs.Seats.{AreSeated, AreNamed, IsSeatOf, caller_of, callers_of, next_of}
 use Rattle.s7_bank.specs.Sharing.{SplitAt, SplitOff, MetAt, MetOf, IsClosed, ClosedAt}
 use Rattle.s7_bank.proofs.ListLemmas.{same_some, get_set_same, get_set_other, get_left, get_last, get_rest, length_more}
-use Rattle.s7_bank.proofs.SeatLemmas.{NamedAt, Shows, seat_at, seated_by, named_by, shows_by}
+use Rattle.s7_bank.proofs.SeatLemmas.{seat_at, seated_by, named_by, shows_by}
 
 module _ {M R P : Type 0} {g : Ghosts M R P} where
   -- ---- split

@@ -1,5 +1,6 @@
 pub mod Areas
 pub mod Seats
 pub mod Sharing
+pub mod Opening
 pub mod BankLegal
 pub mod BankLaws

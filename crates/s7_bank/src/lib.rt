@@ -5,6 +5,7 @@
 mod bank;
 mod banks;
 mod laws;
+mod opening;
 mod seat;
 mod sharing;
 

@@ -1,8 +1,8 @@
-use Rattle.std.proofs.Common.{◌≡◌, ◌<◌, length, Some, None, slice_get, slice_set, refl, ap, sym, ◌∙◌, subst, arith}
+use Rattle.std.proofs.Common.{◌≡◌, length, Some, None, slice_get, slice_set, ap, sym, ◌∙◌, subst, arith}
 use Rattle.std.specs.Prelude.{is_some}
 use Rattle.std.proofs.lemmas.Option.{get_or_from_slice_get}
 use Rattle.s7_turn.specs.Seats.{IsOf}
-use Rattle.s7_bank.specs.Seats.{IsCall, IsSeatAt}
+use Rattle.s7_bank.specs.Seats.{IsCall}
 use Rattle.s7_bank.proofs.ListLemmas.{same_some, set_twice, length_of_set}
 use Rattle.s7_bank.proofs.SeatLemmas.{seat_at, seat_of_call, said_of_call}
 use Rattle.s7_bank.proofs.banks.Banks.act.Goals as goal

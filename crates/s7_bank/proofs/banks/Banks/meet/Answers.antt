@@ -1,5 +1,4 @@
-use Rattle.std.proofs.Common.{◌≡◌, ◌<◌, ◌≤◌, ◌+◌, ℕ, length, Some, None, slice_get, refl, ap, sym, ◌∙◌, subst, arith}
-use Rattle.std.specs.Prelude.{◌++◌, ◌∷◌, []}
+use Rattle.std.proofs.Common.{◌≡◌, ◌<◌, ◌+◌, ℕ, length, Some, None, refl, ap, sym, ◌∙◌, subst, arith}
 use Rattle.s7_bank.specs.Sharing.{MetAt}
 use Rattle.s7_bank.proofs.ListLemmas.{length_more}
 use Rattle.s7_bank.proofs.SeatLemmas.{still_at}

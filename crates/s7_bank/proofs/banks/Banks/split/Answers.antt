@@ -1,5 +1,4 @@
-use Rattle.std.proofs.Common.{◌≡◌, ◌<◌, ◌≤◌, ◌+◌, ℕ, length, Some, refl, ap, sym, ◌∙◌, subst, arith}
-use Rattle.std.specs.Prelude.{◌++◌, ◌∷◌, []}
+use Rattle.std.proofs.Common.{◌≡◌, ◌<◌, ◌+◌, ℕ, length, Some, refl, ap, sym, ◌∙◌, subst, arith}
 use Rattle.s7_bank.specs.Sharing.{SplitAt}
 use Rattle.s7_bank.proofs.ListLemmas.{length_more}
 use Rattle.s7_bank.proofs.SharingLemmas.{split_more, kept_more, split_all}

@@ -1,4 +1,4 @@
-use Rattle.std.proofs.Common.{◌≡◌, ◌<◌, length, refl, ◌∙◌, arith}
+use Rattle.std.proofs.Common.{refl, ◌∙◌, arith}
 use Rattle.s7_bank.specs.Seats.{caller_at}
 use Rattle.s7_bank.proofs.ListLemmas.{length_of_set, numbers_more}
 use Rattle.s7_bank.proofs.seat.BankSeat.callers.Goals as goal
