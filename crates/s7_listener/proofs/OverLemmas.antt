@@ -1,11 +1,12 @@
 -- When all links were served, each was served over the whole history, which is theirs alone.
-use Rattle.std.proofs.Common.{◌≡◌, ◌≢◌, ◌⊎◌, inl, inr, ℕ, ◌+◌, ◌<◌, ◌≤◌, Bool, true, false, true≢false, ltb, eqb, eq-eqb, List, [], ◌∷◌, length, map, Option, None, refl, ap, sym, ◌∙◌, subst, arith, length-append}
+use Rattle.std.proofs.Common.{◌≡◌, ◌≢◌, ◌⊎◌, inl, inr, ℕ, ◌+◌, ◌<◌, ◌≤◌, Bool, true, false, true≢false, ltb, eqb, eq-eqb, List, [], ◌∷◌, length, map, Option, None, Some, refl, ap, sym, ◌∙◌, subst, arith, length-append}
 use Rattle.std.specs.Prelude.{◌==◌, if◌then◌else◌}
 use Rattle.std.proofs.lemmas.Bool.{eqb-true, eqb-false}
 use Rattle.std.proofs.lemmas.Bool.Decides.{nat_tests}
 use Rattle.s7_outer.specs.Shown.{Shown}
 use Rattle.s7_turn.specs.declared.view.Entry.{Entry as Call}
-use Rattle.s7_turn.specs.Histories.{has, places_from, Each, Agrees}
+use Rattle.s7_turn.specs.Histories.{has, calls, places_from, Each, Agrees}
+use Rattle.s7_turn.specs.Turns.{longer}
 use Rattle.s7_turn.proofs.Lists.{one-has}
 use Rattle.s7_plant.specs.declared.request.Ask.{Ask}
 use Rattle.s7_plant.specs.State.{State}
@@ -15,16 +16,36 @@ use Rattle.s7_session.specs.Legal.{IsLegalFor}
 use Rattle.s7_session.specs.LinkState.{LinkState}
 use Rattle.s7_session.specs.Telegrams.{Met, AllAt, last_number}
 use Rattle.s7_session.proofs.SumLemmas.{AreNumbered, AreCounted, AreWithin, all_different, all_served, counts_add_up}
-use Rattle.s7_listener.specs.Benches.{Terms, SeatTold}
+use Rattle.s7_listener.specs.Benches.{Terms, SeatTold, IsFirst}
+use Rattle.s7_listener.specs.HallTerms.{hall_terms}
 use Rattle.s7_listener.specs.Hosted.{IsServedAs, AreServed, AreHosted, counts_of}
 use Rattle.s7_listener.specs.Served.{ServedTold, IsServed, IsServedLink, IsLeftAlone}
 use Rattle.s7_listener.specs.Works.{IsIn, AreIn, IsOver}
 use Rattle.s7_listener.proofs.OwnLemmas.{own_agrees}
 
+-- the first seat of a hall
+pub first_of_hall : (s : State) (limit : ℕ) (first : LinkState) (seat : SeatTold History) → seat.callers ≡ 0 ∷ [] → seat.seen ≡ [] → seat.next ≡ Some 1
+    → IsFirst (hall_terms s limit first) seat
+first_of_hall s limit first seat alone none gives = record {
+  alone = alone;
+  silent = ap (calls 0) none;
+  fits = subst (λ (h : History). length h ≤ limit) (sym none) (omega arith);
+  gives = gives;
+}
+
 -- ---- a link's front of a history
 
 full_goes_on : (limit : ℕ) (front history : History) (callers : List ℕ) → Agrees front callers history → length history ≤ limit → length front ≡ limit → length history ≡ limit
 full_goes_on limit front history callers a few is = omega (arith, few, is, ap length a.1, length-append front a.0)
+
+longer_of : (limit : ℕ) (b : Bool) (xs ys : History) → length xs ≤ limit → length ys ≤ limit → length (if b then ys else xs) ≤ limit
+longer_of limit true xs ys x y = y
+longer_of limit false xs ys x y = x
+
+-- what two seats saw, the longer of it
+pub longer_fits : (limit : ℕ) (xs ys zs : History) → zs ≡ longer xs ys → length xs ≤ limit → length ys ≤ limit → length zs ≤ limit
+longer_fits limit xs ys zs is x y =
+    subst (λ (h : History). length h ≤ limit) (sym is) (longer_of limit (ltb (length xs) (length ys)) xs ys x y)
 
 legal_on : (s : State) (limit : ℕ) (front history : History) (link : ℕ) (mets : List Met) (moment : Option ℕ) (entries : ℕ) (newest : Option ℕ)
     → Agrees front (link ∷ []) history → length history ≤ limit
@@ -75,25 +96,25 @@ served_on s limit first front history pipe served a few is = record { came = on 
     end = is.end;
   }
 
-in_whole : (terms : Terms) (all : SeatTold) (number : ℕ) (pipe : Shown) (served : ServedTold) → length all.seen ≤ terms.limit
-    → IsIn terms all number pipe served → IsServedAs terms.opening terms.limit terms.first all.seen number pipe served
-in_whole terms all number pipe served few i =
-    let a = subst (λ (k : ℕ). Agrees i.history (k ∷ []) all.seen) (sym i.served_as.number_is) i.agrees in
+in_whole : (s : State) (limit : ℕ) (first : LinkState) (all : SeatTold History) (number : ℕ) (pipe : Shown) (served : ServedTold) → length all.seen ≤ limit
+    → IsIn (hall_terms s limit first) all number pipe served → IsServedAs s limit first all.seen number pipe served
+in_whole s limit first all number pipe served few i =
+    let a = subst (λ (k : ℕ). Agrees i.seen (k ∷ []) all.seen) (sym i.served_as.number_is) i.agrees in
     record {
       number_is = i.served_as.number_is;
-      is_served = served_on terms.opening terms.limit terms.first i.history all.seen pipe served a few i.served_as.is_served;
-      count = i.served_as.count ∙ ap length (sym (own_agrees terms.opening number (number ∷ []) i.history all.seen (one-has number) i.agrees));
+      is_served = served_on s limit first i.seen all.seen pipe served a few i.served_as.is_served;
+      count = i.served_as.count ∙ ap length (sym (own_agrees s number (number ∷ []) i.seen all.seen (one-has number) i.agrees));
     }
 
 -- ---- all of them
 
-all_in_whole : (terms : Terms) (all : SeatTold) (number : ℕ) (pipes : List Shown) (links : List ServedTold) → length all.seen ≤ terms.limit
-    → AreIn terms all number pipes links → AreServed terms.opening terms.limit terms.first all.seen number pipes links
-all_in_whole terms all number [] [] few are = tt
-all_in_whole terms all number [] (l ∷ links) few are = absurd are
-all_in_whole terms all number (p ∷ pipes) [] few are = absurd are
-all_in_whole terms all number (p ∷ pipes) (l ∷ links) few are =
-    (in_whole terms all number p l few are.0, all_in_whole terms all (number + 1) pipes links few are.1)
+all_in_whole : (s : State) (limit : ℕ) (first : LinkState) (all : SeatTold History) (number : ℕ) (pipes : List Shown) (links : List ServedTold) → length all.seen ≤ limit
+    → AreIn (hall_terms s limit first) all number pipes links → AreServed s limit first all.seen number pipes links
+all_in_whole s limit first all number [] [] few are = tt
+all_in_whole s limit first all number [] (l ∷ links) few are = absurd are
+all_in_whole s limit first all number (p ∷ pipes) [] few are = absurd are
+all_in_whole s limit first all number (p ∷ pipes) (l ∷ links) few are =
+    (in_whole s limit first all number p l few are.0, all_in_whole s limit first all (number + 1) pipes links few are.1)
 
 as_many : (s : State) (limit : ℕ) (first : LinkState) (history : History) (number : ℕ) (pipes : List Shown) (links : List ServedTold)
     → AreServed s limit first history number pipes links → length (counts_of links) ≡ length pipes
@@ -122,7 +143,7 @@ are_counted s limit first history number (p ∷ pipes) (l ∷ links) are = (
 )
 
 -- each number is one that the seat stands for
-in_stands : (terms : Terms) (all : SeatTold) (number : ℕ) (pipes : List Shown) (links : List ServedTold) → AreIn terms all number pipes links
+in_stands : {Seen : Type 0} (terms : Terms Seen) (all : SeatTold Seen) (number : ℕ) (pipes : List Shown) (links : List ServedTold) → AreIn terms all number pipes links
     → (x : ℕ) → number ≤ x → x < number + length pipes → has all.callers x ≡ true
 in_stands terms all number [] [] are x least most = absurd (omega (arith, least, most))
 in_stands terms all number [] (l ∷ links) are x least most = absurd are
@@ -170,7 +191,7 @@ are_within k count next (call ∷ history) below idle = (
 -- ---- the whole
 
 -- the seat stands for each number that was given
-pub covers : (terms : Terms) (all : SeatTold) (pipes : List Shown) (links : List ServedTold) → (o : IsOver terms all pipes links)
+pub covers : {Seen : Type 0} (terms : Terms Seen) (all : SeatTold Seen) (pipes : List Shown) (links : List ServedTold) → (o : IsOver terms all pipes links)
     → (x : ℕ) → x < o.next → has all.callers x ≡ true
 covers terms all pipes links o x below = by_place (x == 0) refl (ltb (length pipes) x) refl
   where
@@ -180,14 +201,13 @@ covers terms all pipes links o x below = by_place (x == 0) refl (ltb (length pip
     by_place false e false f =
         in_stands terms all 1 pipes links o.links_in x (omega (arith, eqb-false x 0 e)) (grind (arith, nat_tests, f))
 
-over_seen : (terms : Terms) (all : SeatTold) (pipes : List Shown) (links : List ServedTold) → (o : IsOver terms all pipes links)
-    → Each (λ e. e.caller < o.next) all.seen → AreHosted terms.opening terms.limit terms.first all.seen pipes links
-over_seen terms all pipes links o below =
-    let s = terms.opening in
-    let served = all_in_whole terms all 1 pipes links o.few o.links_in in
-    let many = as_many s terms.limit terms.first all.seen 1 pipes links served in
-    let numbered = are_numbered s terms.limit terms.first all.seen 1 pipes links served in
-    let counted = are_counted s terms.limit terms.first all.seen 1 pipes links served in
+over_seen : (s : State) (limit : ℕ) (first : LinkState) (all : SeatTold History) (pipes : List Shown) (links : List ServedTold) → (o : IsOver (hall_terms s limit first) all pipes links)
+    → Each (λ e. e.caller < o.next) all.seen → AreHosted s limit first all.seen pipes links
+over_seen s limit first all pipes links o below =
+    let served = all_in_whole s limit first all 1 pipes links o.few o.links_in in
+    let many = as_many s limit first all.seen 1 pipes links served in
+    let numbered = are_numbered s limit first all.seen 1 pipes links served in
+    let counted = are_counted s limit first all.seen 1 pipes links served in
     let within : AreWithin 1 (length (counts_of links)) all.seen =
     subst (λ (n : ℕ). AreWithin 1 n all.seen) (sym many)
     (are_within 0 (length pipes) o.next all.seen below (λ x idle. (o.idle x idle).silent)) in
@@ -199,9 +219,9 @@ over_seen terms all pipes links o below =
       sum = counts_add_up s 1 (counts_of links) all.seen numbered within counted;
     }
 
-pub over_is_hosted : (terms : Terms) (all : SeatTold) (history : History) (pipes : List Shown) (links : List ServedTold) → (o : IsOver terms all pipes links)
+pub over_is_hosted : (s : State) (limit : ℕ) (first : LinkState) (all : SeatTold History) (history : History) (pipes : List Shown) (links : List ServedTold) → (o : IsOver (hall_terms s limit first) all pipes links)
     → history ≡ all.seen → Each (λ e. e.caller < o.next) history
-    → AreHosted terms.opening terms.limit terms.first history pipes links
-over_is_hosted terms all history pipes links o is below =
-    subst (λ (h : History). AreHosted terms.opening terms.limit terms.first h pipes links) (sym is)
-    (over_seen terms all pipes links o (subst (λ (h : History). Each (λ e. e.caller < o.next) h) is below))
+    → AreHosted s limit first history pipes links
+over_is_hosted s limit first all history pipes links o is below =
+    subst (λ (h : History). AreHosted s limit first h pipes links) (sym is)
+    (over_seen s limit first all pipes links o (subst (λ (h : History). Each (λ e. e.caller < o.next) h) is below))

@@ -10,9 +10,8 @@ use Rattle.s7_outer.specs.Door.{GivesNext, PortFailed}
 use Rattle.s7_outer.specs.DoorShown.{DoorShown}
 use Rattle.s7_outer.specs.Shown.{Shown}
 use Rattle.s7_outer.specs.declared.door.Arrival.TheVariants as arrival
-use Rattle.s7_turn.specs.Histories.{has, calls}
+use Rattle.s7_turn.specs.Histories.{has}
 use Rattle.s7_turn.proofs.Lists.{one-has}
-use Rattle.s7_session.specs.Books.{History}
 use Rattle.s7_listener.specs.Benches.{Terms, SeatTold, IsFirst, IsSplit, IsMet, HasServed}
 use Rattle.s7_listener.specs.Given.{Gave, IsEmptied, Gives, HasGiven, HasFailed}
 use Rattle.s7_listener.specs.Served.{ServedTold, told_of}
@@ -21,7 +20,7 @@ use Rattle.s7_listener.specs.declared.work.Stop.{Stop}
 use Rattle.s7_listener.specs.declared.work.Stop.TheVariants as stop
 use Rattle.s7_listener.specs.declared.work.Work.{Work}
 use Rattle.s7_listener.specs.declared.work.Work.TheVariants as work
-use Rattle.s7_listener.proofs.WorkLemmas.{SeesOn, split_sees_on, met_sees_on, in_later, idle_later, new_is_idle, served_is_in, met_fits, met_next, split_number, split_next, split_is_handed, split_fits, works_later, under_way_later}
+use Rattle.s7_listener.proofs.WorkLemmas.{SeesOn, same_sees_on, split_sees_on, met_sees_on, in_later, idle_later, new_is_idle, served_is_in, met_next, split_number, split_next, split_own_fits, split_is_handed, split_fits, works_later, under_way_later}
 
 -- ---- lists
 
@@ -125,22 +124,22 @@ module _ {L : Type 0} where
     gave = subst (λ (c : Option (List L)). Gave [] old.coming c) (sym same) (gave_none old.coming);
   }
 
-module _ {H L : Type 0} (keeps : H → Type 0) (gets : H → Handed) (shows : L → Shown) (terms : Terms) where
+module _ {H L Seen : Type 0} (keeps : H → Type 0) (gets : H → Handed Seen) (shows : L → Shown) (terms : Terms Seen) where
   -- ---- one more link came
 
-  pub split_under_way : (seat seat' own : SeatTold) (pipes : List Shown) (works : List (Work H L)) → IsSplit seat seat' own
+  pub split_under_way : (seat seat' own : SeatTold Seen) (pipes : List Shown) (works : List (Work H L)) → IsSplit terms seat seat' own
       → IsUnderWay keeps gets shows terms seat pipes works → IsUnderWay keeps gets shows terms seat' pipes works
   split_under_way seat seat' own pipes works s u =
-      under_way_later keeps gets shows terms seat seat' pipes works (split_sees_on seat seat' own s) (split_fits terms.limit seat seat' own s u.few) u
+      under_way_later keeps gets shows terms seat seat' pipes works (split_sees_on terms seat seat' own s) (split_fits terms seat seat' own s u.few) u
 
   -- the number behind that of the new seat is the next one
   next_more : (n : ℕ) (lines : List L) (line : L) → n ≡ length lines + 1 → n + 1 ≡ length (lines ++ line ∷ []) + 1
   next_more n lines line is = omega (arith, is, length-append lines (line ∷ []))
 
-  pub one_more : (port : ℕ) (before old now : DoorShown L) (seat seat' own all : SeatTold) (lines : List L) (line : L) (works works' : List (Work H L))
+  pub one_more : (port : ℕ) (before old now : DoorShown L) (seat seat' own all : SeatTold Seen) (lines : List L) (line : L) (works works' : List (Work H L))
       → IsServing keeps gets shows terms port before old seat lines works
-      → Gives port before now (lines ++ line ∷ []) → now.faults ≡ old.faults → IsSplit seat seat' own → all.next ≡ seat'.next
-      → ((pipes : List Shown) → IsHanded terms.limit (length pipes + 1) (shows line) (handed own (shows line))
+      → Gives port before now (lines ++ line ∷ []) → now.faults ≡ old.faults → IsSplit terms seat seat' own → all.next ≡ seat'.next
+      → ((pipes : List Shown) → IsHanded terms (length pipes + 1) (shows line) (handed own (shows line))
       → IsUnderWay keeps gets shows terms seat' pipes works → IsUnderWay keeps gets shows terms all (pipes ++ shows line ∷ []) works')
       → IsServing keeps gets shows terms port before now all (lines ++ line ∷ []) works'
   one_more port before old now seat seat' own all lines line works works' s gives same split next goes_on =
@@ -151,31 +150,31 @@ module _ {H L : Type 0} (keeps : H → Type 0) (gets : H → Handed) (shows : L 
         unfailed = same ∙ s.unfailed;
         under_way = subst (λ (ps : List Shown). IsUnderWay keeps gets shows terms all ps works') (sym (map-append shows lines (line ∷ [])))
             (goes_on pipes
-            (split_is_handed terms.limit (length pipes + 1) seat seat' own (shows line) split (s.next ∙ ap Some place) s.under_way.few)
+            (split_is_handed terms (length pipes + 1) seat seat' own (shows line) split (s.next ∙ ap Some place) s.under_way.few)
             (split_under_way seat seat' own pipes works split s.under_way));
-        next = next ∙ split_next seat seat' own (length lines + 1) split s.next ∙ ap Some (next_more (length lines + 1) lines line refl);
+        next = next ∙ split_next terms seat seat' own (length lines + 1) split s.next ∙ ap Some (next_more (length lines + 1) lines line refl);
       }
 
   -- ---- none came
 
-  pub no_more : (port : ℕ) (before old now : DoorShown L) (seat seat' own all : SeatTold) (lines : List L) (works : List (Work H L))
+  pub no_more : (port : ℕ) (before old now : DoorShown L) (seat seat' own all : SeatTold Seen) (lines : List L) (works : List (Work H L))
       → IsServing keeps gets shows terms port before old seat lines works
-      → Gives port before now lines → IsSplit seat seat' own → IsMet seat' own all
+      → Gives port before now lines → IsSplit terms seat seat' own → IsMet terms seat' own all
       → HasStopped keeps gets shows terms port before now all lines works
   no_more port before old now seat seat' own all lines works s gives split met =
       let pipes = map shows lines in
       let u = split_under_way seat seat' own pipes works split s.under_way in
-      let few : length own.seen ≤ terms.limit = subst (λ (h : History). length h ≤ terms.limit) (sym split.sees) s.under_way.few in
+      let few : terms.fits own.seen = split_own_fits terms seat seat' own split s.under_way.few in
       let two : (length lines + 1) + 1 ≡ length lines + 2 = omega arith in
       record {
         gives = gives;
-        under_way = under_way_later keeps gets shows terms seat' all pipes works (met_sees_on seat' own all met)
-            (met_fits terms.limit seat' own all met u.few few) u;
-        next = met_next seat' own all met split.gives_none ∙ split_next seat seat' own (length lines + 1) split s.next ∙ ap Some two;
-        last = subst (IsIdle all) (split_number seat seat' own (length lines + 1) split s.next) (new_is_idle seat' own all split.is_new met);
+        under_way = under_way_later keeps gets shows terms seat' all pipes works (met_sees_on terms seat' own all met)
+            (met.fits u.few few) u;
+        next = met_next terms seat' own all met split.gives_none ∙ split_next terms seat seat' own (length lines + 1) split s.next ∙ ap Some two;
+        last = subst (IsIdle terms all) (split_number terms seat seat' own (length lines + 1) split s.next) (new_is_idle terms seat' own all split.is_new met);
       }
 
-  pub stopped : (port most : ℕ) (before old now : DoorShown L) (seat all : SeatTold) (lines : List L) (works works' : List (Work H L)) (why : Option Stop) → is_some why ≡ true
+  pub stopped : (port most : ℕ) (before old now : DoorShown L) (seat all : SeatTold Seen) (lines : List L) (works works' : List (Work H L)) (why : Option Stop) → is_some why ≡ true
       → IfSome why (λ w. (p : ℕ) (b : DoorShown L) (ls : List L) → IsServing keeps gets shows terms p b old seat ls works
       → HasStopped keeps gets shows terms p b now all ls works' × Stops p b now w)
       → IsServing keeps gets shows terms port before old seat lines works → length lines < most
@@ -187,7 +186,7 @@ module _ {H L : Type 0} (keeps : H → Type 0) (gets : H → Handed) (shows : L 
 
   -- ---- the beginning
 
-  pub begins : (port : ℕ) (before now : DoorShown L) (seat : SeatTold) (works : List (Work H L)) → IsFirst seat → works ≡ [] → Gives port before now [] → now.faults ≡ before.faults
+  pub begins : (port : ℕ) (before now : DoorShown L) (seat : SeatTold Seen) (works : List (Work H L)) → IsFirst terms seat → works ≡ [] → Gives port before now [] → now.faults ≡ before.faults
       → IsServing keeps gets shows terms port before now seat [] works
   begins port before now seat works f none gives unfailed = record {
     gives = gives;
@@ -195,9 +194,9 @@ module _ {H L : Type 0} (keeps : H → Type 0) (gets : H → Handed) (shows : L 
     under_way = record {
       idle = record {
         stands = ap (λ l. has l 0) f.alone ∙ one-has 0;
-        silent = ap (calls 0) f.saw_none;
+        silent = f.silent;
       };
-      few = subst (λ (h : History). length h ≤ terms.limit) (sym f.saw_none) (omega arith);
+      few = f.fits;
       works_are = subst (λ (ws : List (Work H L)). WorksAre keeps gets shows terms seat 1 [] ws) (sym none) tt;
     };
     next = f.gives;
@@ -205,7 +204,7 @@ module _ {H L : Type 0} (keeps : H → Type 0) (gets : H → Handed) (shows : L 
 
   -- ---- links are taken in
 
-  ins_later : (old new : SeatTold) (number : ℕ) (pipes : List Shown) (links : List ServedTold) → SeesOn old new
+  ins_later : (old new : SeatTold Seen) (number : ℕ) (pipes : List Shown) (links : List ServedTold) → SeesOn terms old new
       → AreIn terms old number pipes links → AreIn terms new number pipes links
   ins_later old new number [] [] s are = tt
   ins_later old new number [] (l ∷ links) s are = absurd are
@@ -213,7 +212,7 @@ module _ {H L : Type 0} (keeps : H → Type 0) (gets : H → Handed) (shows : L 
   ins_later old new number (p ∷ pipes) (l ∷ links) s are =
       (in_later terms old new number p l s are.0, ins_later old new (number + 1) pipes links s are.1)
 
-  ins_more : (all : SeatTold) (number : ℕ) (pipes : List Shown) (links : List ServedTold) (pipe : Shown) (served : ServedTold)
+  ins_more : (all : SeatTold Seen) (number : ℕ) (pipes : List Shown) (links : List ServedTold) (pipe : Shown) (served : ServedTold)
       → AreIn terms all number pipes links → ((n : ℕ) → n ≡ number + length pipes → IsIn terms all n pipe served)
       → AreIn terms all number (pipes ++ pipe ∷ []) (links ++ served ∷ [])
   ins_more all number [] [] pipe served are is = (is number (omega arith), tt)
@@ -223,10 +222,10 @@ module _ {H L : Type 0} (keeps : H → Type 0) (gets : H → Handed) (shows : L 
       (are.0, ins_more all (number + 1) pipes links pipe served are.1 (λ n e. is n (omega (arith, e))))
 
   -- what is gathered, with the first of the others taken in
-  take_one : (start old new : SeatTold) (pipes first others : List Shown) (pipe : Shown) (works : List (Work H L)) (links : List ServedTold) (served : ServedTold)
-      → SeesOn old new → pipes ≡ first ++ pipe ∷ others → AreIn terms old 1 first links
+  take_one : (start old new : SeatTold Seen) (pipes first others : List Shown) (pipe : Shown) (works : List (Work H L)) (links : List ServedTold) (served : ServedTold)
+      → SeesOn terms old new → pipes ≡ first ++ pipe ∷ others → AreIn terms old 1 first links
       → WorksAre keeps gets shows terms old ((length first + 1) + 1) others works
-      → length new.seen ≤ terms.limit → new.next ≡ start.next → ((x : ℕ) → IsIdle start x → IsIdle old x)
+      → terms.fits new.seen → new.next ≡ start.next → ((x : ℕ) → IsIdle terms start x → IsIdle terms old x)
       → IsIn terms new (length first + 1) pipe served
       → IsGathering keeps gets shows terms start new pipes works (links ++ served ∷ [])
   take_one start old new pipes first others pipe works links served s cut taken are few next idle is = record {
@@ -239,17 +238,11 @@ module _ {H L : Type 0} (keeps : H → Type 0) (gets : H → Handed) (shows : L 
         (works_later keeps gets shows terms old new ((length first + 1) + 1) others works s are);
     few = few;
     next = next;
-    idle = λ x i. idle_later old new x s (idle x i);
-  }
-
-  same_sees_on : (all : SeatTold) → SeesOn all all
-  same_sees_on all = record {
-    keeps = λ x h. h;
-    agrees = ([], sym (append-nil all.seen), tt);
+    idle = λ x i. idle_later terms old new x s (idle x i);
   }
 
   -- one that was served already
-  pub take_done : (start all : SeatTold) (pipes : List Shown) (w : Work H L) (works : List (Work H L)) (links links' : List ServedTold) (served : _) → w ≡ work.Done served
+  pub take_done : (start all : SeatTold Seen) (pipes : List Shown) (w : Work H L) (works : List (Work H L)) (links links' : List ServedTold) (served : _) → w ≡ work.Done served
       → links' ≡ links ++ told_of shows served ∷ []
       → IsGathering keeps gets shows terms start all pipes (w ∷ works) links
       → IsGathering keeps gets shows terms start all pipes works links'
@@ -262,12 +255,12 @@ module _ {H L : Type 0} (keeps : H → Type 0) (gets : H → Handed) (shows : L 
       by_others [] cut are = absurd are
       by_others (pipe ∷ others) cut are =
           subst (λ (ls : List ServedTold). IsGathering keeps gets shows terms start all pipes works ls) (sym more)
-          (take_one start all all pipes g.first others pipe works links (told_of shows served) (same_sees_on all) cut g.taken are.1 g.few g.next g.idle are.0)
+          (take_one start all all pipes g.first others pipe works links (told_of shows served) (same_sees_on terms all) cut g.taken are.1 g.few g.next g.idle are.0)
 
   -- one that a thread served
-  pub take_joined : (start old back new : SeatTold) (pipes : List Shown) (w : Work H L) (works : List (Work H L)) (links links' : List ServedTold) (h : H) (served : ServedTold)
+  pub take_joined : (start old back new : SeatTold Seen) (pipes : List Shown) (w : Work H L) (works : List (Work H L)) (links links' : List ServedTold) (h : H) (served : ServedTold)
       → w ≡ work.Running h → links' ≡ links ++ served ∷ []
-      → HasServed terms (gets h).seat back (gets h).pipe served → IsMet old back new
+      → HasServed terms (gets h).seat back (gets h).pipe served → IsMet terms old back new
       → IsGathering keeps gets shows terms start old pipes (w ∷ works) links
       → IsGathering keeps gets shows terms start new pipes works links'
   take_joined start old back new pipes w works links links' h served is more has_served met g =
@@ -286,11 +279,11 @@ module _ {H L : Type 0} (keeps : H → Type 0) (gets : H → Handed) (shows : L 
           let piped : IsIn terms new (length g.first + 1) pipe served =
           subst (λ (p : Shown). IsIn terms new (length g.first + 1) p served) given.pipe_is numbered in
           subst (λ (ls : List ServedTold). IsGathering keeps gets shows terms start new pipes works ls) (sym more)
-          (take_one start old new pipes g.first others pipe works links served (met_sees_on old back new met) cut g.taken are.1
-          (met_fits terms.limit old back new met g.few (has_served.fits given.few))
-          (met_next old back new met (has_served.same_next ∙ given.gives_none) ∙ g.next) g.idle piped)
+          (take_one start old new pipes g.first others pipe works links served (met_sees_on terms old back new met) cut g.taken are.1
+          (met.fits g.few (has_served.fits given.few))
+          (met_next terms old back new met (has_served.same_next ∙ given.gives_none) ∙ g.next) g.idle piped)
 
-  pub gathers_none : (all : SeatTold) (pipes : List Shown) (works rest : List (Work H L)) (links : List ServedTold) → rest ≡ works → links ≡ []
+  pub gathers_none : (all : SeatTold Seen) (pipes : List Shown) (works rest : List (Work H L)) (links : List ServedTold) → rest ≡ works → links ≡ []
       → IsUnderWay keeps gets shows terms all pipes works → IsGathering keeps gets shows terms all all pipes rest links
   gathers_none all pipes works rest links same none u =
       subst (λ (ls : List ServedTold). IsGathering keeps gets shows terms all all pipes rest ls) (sym none) record {
@@ -304,14 +297,14 @@ module _ {H L : Type 0} (keeps : H → Type 0) (gets : H → Handed) (shows : L 
         idle = λ x i. i;
       }
 
-  pub gathering_of : (start all : SeatTold) (pipes : List Shown) (works rest : List (Work H L)) (links : List ServedTold) → works ≡ rest
+  pub gathering_of : (start all : SeatTold Seen) (pipes : List Shown) (works rest : List (Work H L)) (links : List ServedTold) → works ≡ rest
       → IsGathering keeps gets shows terms start all pipes works links → IsGathering keeps gets shows terms start all pipes rest links
   gathering_of start all pipes works rest links same g =
       subst (λ (ws : List (Work H L)). IsGathering keeps gets shows terms start all pipes ws links) same g
 
   -- ---- the end
 
-  as_many_works : (all : SeatTold) (number : ℕ) (pipes : List Shown) (works : List (Work H L)) → WorksAre keeps gets shows terms all number pipes works
+  as_many_works : (all : SeatTold Seen) (number : ℕ) (pipes : List Shown) (works : List (Work H L)) → WorksAre keeps gets shows terms all number pipes works
       → length works ≡ length pipes
   as_many_works all number [] [] are = refl
   as_many_works all number [] (w ∷ works) are = absurd are
@@ -319,11 +312,11 @@ module _ {H L : Type 0} (keeps : H → Type 0) (gets : H → Handed) (shows : L 
   as_many_works all number (p ∷ pipes) (w ∷ works) are = omega (arith, as_many_works all (number + 1) pipes works are.1)
 
   -- as many links are under way as came
-  pub as_many_came : (all : SeatTold) (lines : List L) (works : List (Work H L)) → IsUnderWay keeps gets shows terms all (map shows lines) works
+  pub as_many_came : (all : SeatTold Seen) (lines : List L) (works : List (Work H L)) → IsUnderWay keeps gets shows terms all (map shows lines) works
       → length works ≡ length lines
   as_many_came all lines works u = as_many_works all 1 (map shows lines) works u.works_are ∙ length-map lines shows
 
-  pub all_gathered : (start all : SeatTold) (pipes : List Shown) (works : List (Work H L)) (links : List ServedTold) → length works ≡ 0
+  pub all_gathered : (start all : SeatTold Seen) (pipes : List Shown) (works : List (Work H L)) (links : List ServedTold) → length works ≡ 0
       → IsGathering keeps gets shows terms start all pipes works links → IsGathered terms start all pipes links
   all_gathered start all pipes (w ∷ works) links none g = absurd (omega (arith, none))
   all_gathered start all pipes [] links none g = record {
@@ -339,24 +332,24 @@ module _ {H L : Type 0} (keeps : H → Type 0) (gets : H → Handed) (shows : L 
       by_others (p ∷ others) cut are = absurd are
 
   -- the numbers that are idle: 0, and the last one where no link came for it
-  idle_without : (start all : SeatTold) (pipes : List Shown) (next : ℕ) → ((x : ℕ) → IsIdle start x → IsIdle all x) → IsIdle start 0 → next ≡ length pipes + 1
-      → (x : ℕ) → (x ≡ 0) ⊎ ((length pipes < x) × (x < next)) → IsIdle all x
-  idle_without start all pipes next later zero is x (inl e) = subst (IsIdle all) (sym e) (later 0 zero)
+  idle_without : (start all : SeatTold Seen) (pipes : List Shown) (next : ℕ) → ((x : ℕ) → IsIdle terms start x → IsIdle terms all x) → IsIdle terms start 0 → next ≡ length pipes + 1
+      → (x : ℕ) → (x ≡ 0) ⊎ ((length pipes < x) × (x < next)) → IsIdle terms all x
+  idle_without start all pipes next later zero is x (inl e) = subst (IsIdle terms all) (sym e) (later 0 zero)
   idle_without start all pipes next later zero is x (inr between) = absurd (omega (arith, is, between.0, between.1))
 
-  idle_with : (start all : SeatTold) (pipes : List Shown) (next last : ℕ) → ((x : ℕ) → IsIdle start x → IsIdle all x) → IsIdle start 0 → IsIdle start last
+  idle_with : (start all : SeatTold Seen) (pipes : List Shown) (next last : ℕ) → ((x : ℕ) → IsIdle terms start x → IsIdle terms all x) → IsIdle terms start 0 → IsIdle terms start last
       → last ≡ length pipes + 1 → next ≡ length pipes + 2
-      → (x : ℕ) → (x ≡ 0) ⊎ ((length pipes < x) × (x < next)) → IsIdle all x
-  idle_with start all pipes next last later zero end is_last is x (inl e) = subst (IsIdle all) (sym e) (later 0 zero)
+      → (x : ℕ) → (x ≡ 0) ⊎ ((length pipes < x) × (x < next)) → IsIdle terms all x
+  idle_with start all pipes next last later zero end is_last is x (inl e) = subst (IsIdle terms all) (sym e) (later 0 zero)
   idle_with start all pipes next last later zero end is_last is x (inr between) =
-      subst (IsIdle all) (omega (arith, is_last, is, between.0, between.1)) (later last end)
+      subst (IsIdle terms all) (omega (arith, is_last, is, between.0, between.1)) (later last end)
 
-  pub accepted_under_way : (port most : ℕ) (before now : DoorShown L) (all : SeatTold) (lines : List L) (works : List (Work H L)) (why : Option Stop)
+  pub accepted_under_way : (port most : ℕ) (before now : DoorShown L) (all : SeatTold Seen) (lines : List L) (works : List (Work H L)) (why : Option Stop)
       → IsAccepted keeps gets shows terms port most before now all lines works why → IsUnderWay keeps gets shows terms all (map shows lines) works
   accepted_under_way port most before now all lines works None a = a.0.under_way
   accepted_under_way port most before now all lines works (Some why) a = a.0.under_way
 
-  pub is_over : (port most : ℕ) (before now : DoorShown L) (start all : SeatTold) (lines : List L) (works : List (Work H L)) (links : List ServedTold) (why : Option Stop)
+  pub is_over : (port most : ℕ) (before now : DoorShown L) (start all : SeatTold Seen) (lines : List L) (works : List (Work H L)) (links : List ServedTold) (why : Option Stop)
       → IsAccepted keeps gets shows terms port most before now start lines works why
       → IsGathered terms start all (map shows lines) links
       → IsOver terms all (map shows lines) links
@@ -380,7 +373,7 @@ module _ {H L : Type 0} (keeps : H → Type 0) (gets : H → Handed) (shows : L 
   some_came true n not is = omega (arith, eqb-false n 0 not)
   some_came false n not is = absurd (true≢false (sym is))
 
-  has_given : (port most : ℕ) (before now : DoorShown L) (all : SeatTold) (lines : List L) (works : List (Work H L)) (why : Option Stop) (count : ℕ)
+  has_given : (port most : ℕ) (before now : DoorShown L) (all : SeatTold Seen) (lines : List L) (works : List (Work H L)) (why : Option Stop) (count : ℕ)
       → IsAccepted keeps gets shows terms port most before now all lines works why
       → count ≡ length works → (failed_by why && (count == 0)) ≡ false
       → HasGiven port most before now lines (failed_by why)
@@ -408,7 +401,7 @@ module _ {H L : Type 0} (keeps : H → Type 0) (gets : H → Handed) (shows : L 
   none_came (l ∷ lines) e = absurd (omega (arith, e))
 
   -- the door failed before a link came
-  has_failed : (port most : ℕ) (before now : DoorShown L) (all : SeatTold) (lines : List L) (works : List (Work H L)) (why : Option Stop) (count : ℕ)
+  has_failed : (port most : ℕ) (before now : DoorShown L) (all : SeatTold Seen) (lines : List L) (works : List (Work H L)) (why : Option Stop) (count : ℕ)
       → IsAccepted keeps gets shows terms port most before now all lines works why
       → count ≡ length works → (failed_by why && (count == 0)) ≡ true → HasFailed port before now
   has_failed port most before now all lines works None count a many f = absurd (true≢false (sym f))
@@ -420,7 +413,7 @@ module _ {H L : Type 0} (keeps : H → Type 0) (gets : H → Handed) (shows : L 
   }
 
   -- both, as the code tells them: how many links were asked for, whether the door failed, and how many are under way
-  pub given_in_all : (port asked most : ℕ) (before now : DoorShown L) (all : SeatTold) (lines : List L) (works : List (Work H L)) (why : Option Stop) (failed : Bool) (count : ℕ)
+  pub given_in_all : (port asked most : ℕ) (before now : DoorShown L) (all : SeatTold Seen) (lines : List L) (works : List (Work H L)) (why : Option Stop) (failed : Bool) (count : ℕ)
       → asked ≡ most → failed ≡ failed_by why → count ≡ length works → (failed && (count == 0)) ≡ false
       → IsAccepted keeps gets shows terms port asked before now all lines works why → HasGiven port most before now lines failed
   given_in_all port asked most before now all lines works why failed count same is many some a =
@@ -428,7 +421,7 @@ module _ {H L : Type 0} (keeps : H → Type 0) (gets : H → Handed) (shows : L 
       (subst (λ (f : Bool). HasGiven port asked before now lines f) (sym is)
       (has_given port asked before now all lines works why count a many (ap (λ f. f && (count == 0)) (sym is) ∙ some)))
 
-  pub failed_at_once : (port asked : ℕ) (before now : DoorShown L) (all : SeatTold) (lines : List L) (works : List (Work H L)) (why : Option Stop) (failed : Bool) (count : ℕ)
+  pub failed_at_once : (port asked : ℕ) (before now : DoorShown L) (all : SeatTold Seen) (lines : List L) (works : List (Work H L)) (why : Option Stop) (failed : Bool) (count : ℕ)
       → failed ≡ failed_by why → count ≡ length works → (failed && (count == 0)) ≡ true
       → IsAccepted keeps gets shows terms port asked before now all lines works why → HasFailed port before now
   failed_at_once port asked before now all lines works why failed count is many none a =

@@ -6,4 +6,5 @@ pub mod Benches
 pub mod SeatShown
 pub mod Given
 pub mod Hosted
+pub mod HallTerms
 pub mod Works

@@ -15,12 +15,15 @@ pub trait Bench {
     /// The right to have one link served.
     type Seat;
 
+    // What a seat sees of the history, or of the histories, in which calls are entered.
+    ghost Seen: { Type 0 };
+
     ghost is_of: { Self → Self.Seat → Type 0 };
 
-    ghost told: { Self.Seat → SeatTold };
+    ghost told: { Self.Seat → SeatTold Seen };
 
-    // the plant's state at the opening, the limit of the history, and the state in which each link begins
-    ghost terms: { Self → Terms };
+    // what it means that a link was served over what a seat sees, and that what is seen goes on
+    ghost terms: { Self → Terms Seen };
 
     /// Splits a new seat off this one. The new seat has the number that the old one hands out next.
     fn split(&self, seat: &mut Self::Seat) -> Self::Seat
@@ -28,7 +31,7 @@ pub trait Bench {
         requires number { (n : ℕ) × ((told seat.old).next ≡ Some n) × (n < 1048576) }
         ensures old { is_of self.now seat.new }
         ensures own { is_of self.now result }
-        ensures split { IsSplit (told seat.old) (told seat.new) (told result) };
+        ensures split { IsSplit (terms self.now) (told seat.old) (told seat.new) (told result) };
 
     /// Serves a link to its end in the name of a seat. The seat must represent its caller alone, which has made no
     /// call. The outcome says why the link ended.
@@ -40,7 +43,7 @@ pub trait Bench {
         line: L,
     ) -> (Self::Seat, Served<L>)
         requires hall { is_of self.now seat }
-        requires new { IsNew (told seat) }
+        requires new { IsNew (terms self.now) (told seat) }
         ensures hall { is_of self.now result.0 }
         ensures served { HasServed (terms self.now) (told seat) (told result.0)
             (L.shows line) (told_of L.shows result.1) };
@@ -50,5 +53,5 @@ pub trait Bench {
         requires one { is_of self.now one }
         requires two { is_of self.now two }
         ensures hall { is_of self.now result }
-        ensures met { IsMet (told one) (told two) (told result) };
+        ensures met { IsMet (terms self.now) (told one) (told two) (told result) };
 }

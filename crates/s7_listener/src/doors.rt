@@ -1,12 +1,10 @@
 //! Serving all links of a door on one keeper.
-ghost use Rattle.std.specs.Prelude.{◌≡◌, List, [], map, IfOk, IsErrOf};
+ghost use Rattle.std.specs.Prelude.{◌≡◌, List, [], ◌∷◌, Some, map, IfOk, IsErrOf};
 ghost use Rattle.s7_turn.specs.Machines.{IsReplayed};
-ghost use Rattle.s7_turn.specs.Seats.{IsOf, made};
+ghost use Rattle.s7_turn.specs.Seats.{IsOf, made, callers, seen, next};
 ghost use Rattle.s7_session.specs.LinkState.{first_link};
-ghost use Rattle.s7_listener.specs.Benches.{IsFirst};
 ghost use Rattle.s7_listener.specs.Given.{HasFailed, HasGiven};
 ghost use Rattle.s7_listener.specs.Hosted.{AreHosted};
-ghost use Rattle.s7_listener.specs.SeatShown.{seat_told};
 ghost use Rattle.s7_listener.specs.Served.{told_of};
 
 use crate::hall_bench::HallBench;
@@ -29,7 +27,7 @@ fn hall_of<M: Keeper + Drop>(alloc: Global, keeper: M) -> Result<(Hall<M>, Seat<
         (M.opening (made r.0) ≡ M.opening keeper) × (M.limit (made r.0) ≡ M.limit keeper)) }
     ensures opened { IfOk result (λ r. M.opened (made r.0) ≡ M.opened keeper) }
     ensures hall { IfOk result (λ r. IsOf r.0 r.1) }
-    ensures first { IfOk result (λ r. IsFirst (seat_told r.1)) }
+    ensures first { IfOk result (λ r. (callers r.1 ≡ 0 ∷ []) × (seen r.1 ≡ []) × (next r.1 ≡ Some 1)) }
 {
     match Hall::new(alloc, keeper) {
         Ok(made) => Ok(made),

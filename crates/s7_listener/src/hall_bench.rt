@@ -1,6 +1,8 @@
 //! A hall that serves links.
 ghost use Rattle.s7_turn.specs.Seats.{IsOf, made};
 ghost use Rattle.s7_session.specs.LinkState.{first_link};
+ghost use Rattle.s7_session.specs.Books.{History};
+ghost use Rattle.s7_listener.specs.HallTerms.{hall_terms};
 ghost use Rattle.s7_listener.specs.SeatShown.{seat_told};
 
 use crate::bench::Bench;
@@ -25,15 +27,13 @@ pub struct HallBench<'a, M: Keeper, G: Gate> {
 impl<M: Keeper, G: Gate> Bench for HallBench<'_, M, G> {
     type Seat = Seat<M>;
 
+    ghost Seen = { History };
+
     ghost is_of = { λ b seat. IsOf b.hall.now seat };
 
     ghost told = { λ seat. seat_told seat };
 
-    ghost terms = { λ b. record {
-      opening = M.opened (made b.hall.now);
-      limit = M.limit (made b.hall.now);
-      first = first_link b.guard;
-    } };
+    ghost terms = { λ b. hall_terms (M.opened (made b.hall.now)) (M.limit (made b.hall.now)) (first_link b.guard) };
 
     fn split(&self, seat: &mut Seat<M>) -> Seat<M> {
         self.hall.split(seat)
@@ -49,6 +49,7 @@ impl<M: Keeper, G: Gate> Bench for HallBench<'_, M, G> {
         serve_link(rt, alloc, self.hall, seat, self.gate, self.guard, line)
     }
 
+    #[tactic(auto, using(crate::proofs::OverLemmas::longer_fits))]
     fn meet(&self, one: Seat<M>, two: Seat<M>) -> Seat<M> {
         self.hall.meet(one, two)
     }

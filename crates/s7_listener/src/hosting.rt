@@ -59,7 +59,7 @@ fn start<
 where
     B::Seat: Send + Drop + 's,
     requires hall { B.is_of bench.now seat }
-    requires new { IsNew (B.told seat) }
+    requires new { IsNew (B.terms bench.now) (B.told seat) }
     ensures started { IfOk result (λ h. (h.promise.bench.now ≡ bench.entry.now)
         × (B.told h.promise.seat.value ≡ B.told seat) × (L.shows h.promise.line.value ≡ L.shows line)) }
     ensures served { IfErr result (λ r. B.is_of bench.entry.now r.0
@@ -71,7 +71,7 @@ where
         line: Snapshot::of(&line),
     };
     let job = move || -> (B::Seat, Served<L>)
-        requires { B.is_of bench.now seat × IsNew (B.told seat) }
+        requires { B.is_of bench.now seat × IsNew (B.terms bench.now) (B.told seat) }
         ensures { B.is_of bench.entry.now result.0
             × HasServed (B.terms bench.entry.now) (B.told seat) (B.told result.0)
             (L.shows line) (told_of L.shows result.1) }
@@ -103,12 +103,12 @@ where
     B::Seat: Send + Drop + 's,
     requires hall { B.is_of bench.now seat }
     requires own { B.is_of bench.now own }
-    requires new { IsNew (B.told own) }
+    requires new { IsNew (B.terms bench.now) (B.told own) }
     requires none { (B.told own).next ≡ None }
     requires room { vec_len works.old < vec_capacity works.old }
     ensures hall { B.is_of bench.entry.now result }
     ensures next { (B.told result).next ≡ (B.told seat).next }
-    ensures goes_on { (pipes : List Shown) → IsHanded (B.terms bench.entry.now).limit (length pipes + 1) (L.shows line)
+    ensures goes_on { (pipes : List Shown) → IsHanded (B.terms bench.entry.now) (length pipes + 1) (L.shows line)
         (handed (B.told own) (L.shows line))
         → IsUnderWay (λ h. h.promise.bench.now ≡ bench.entry.now)
         (λ h. handed (B.told h.promise.seat.value) (L.shows h.promise.line.value))
@@ -248,7 +248,7 @@ where
     requires keeps { IsKept (λ h. h.promise.bench.now ≡ bench.now) work }
     requires room { vec_len links.old < vec_capacity links.old }
     ensures hall { B.is_of bench.entry.now result }
-    ensures takes { (start : SeatTold) (pipes : List Shown) (works : List _)
+    ensures takes { (start : SeatTold _) (pipes : List Shown) (works : List _)
         → IsGathering (λ h. h.promise.bench.now ≡ bench.entry.now)
         (λ h. handed (B.told h.promise.seat.value) (L.shows h.promise.line.value))
         L.shows (B.terms bench.entry.now) start (B.told seat) pipes (work.entry ∷ works)
@@ -340,7 +340,7 @@ fn host_in<
 where
     B::Seat: Send + Drop + 's,
     requires hall { B.is_of bench.now seat }
-    requires first { IsFirst (B.told seat) }
+    requires first { IsFirst (B.terms bench.now) (B.told seat) }
     requires room { most ≤ vec_capacity links }
     requires none { vec_len links ≡ 0 }
     ensures hosted { IfOk result.0 (λ g. B.is_of bench.entry.now g.seat
@@ -399,7 +399,7 @@ pub(crate) fn host<
 where
     B::Seat: Send + Drop,
     requires hall { B.is_of bench.now seat }
-    requires first { IsFirst (B.told seat) }
+    requires first { IsFirst (B.terms bench.now) (B.told seat) }
     requires room { most ≤ vec_capacity links }
     requires none { vec_len links ≡ 0 }
     ensures hosted { IfOk result.0 (λ g. B.is_of bench.entry.now g.seat
@@ -412,7 +412,7 @@ where
         scope_env(),
         rt,
         |scope| -> (Result<Gathered<B::Seat, L>, NotHosted>, D)
-            requires { B.is_of bench.now seat × IsFirst (B.told seat)
+            requires { B.is_of bench.now seat × IsFirst (B.terms bench.now) (B.told seat)
                 × (most ≤ vec_capacity links) × (vec_len links ≡ 0) }
             ensures { IfOk result.0 (λ g. B.is_of bench.entry.now g.seat
                 × (lines : List L) × HasGiven port most (D.shows door) (D.shows result.1) lines g.door_failed
