@@ -1,4 +1,5 @@
 pub mod OwnLemmas
+pub mod FoundLemmas
 pub mod ServedLemmas
 pub mod WorkLemmas
 pub mod OverLemmas

@@ -1,6 +1,7 @@
 pub mod Begins
 pub mod Seats
 pub mod SeatLaws
+pub mod Found
 pub mod Served
 pub mod Benches
 pub mod SeatShown
