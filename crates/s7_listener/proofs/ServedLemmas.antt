@@ -15,7 +15,7 @@ use Rattle.s7_session.specs.Telegrams.{verdicts_of, MemoryIsLast, AllAt, last_nu
 use Rattle.s7_session.proofs.DoerLemmas.{loose_of, full_end, full_stays, are_caused}
 use Rattle.s7_session.proofs.PastLemmas.{memory_is_last}
 use Rattle.s7_session.specs.Verdict.{Verdict}
-use Rattle.s7_listener.specs.Served.{IsServedLink, IsServed, IsShut, served_told}
+use Rattle.s7_listener.specs.Served.{ServedTold, IsServedLink, IsServed, IsShut, served_told}
 
 -- what the doer stands for in the end are the link's own calls in a history, and where it is full that has its greatest
 -- length
@@ -141,3 +141,9 @@ told_so s limit first history pipe line o {link} {link'} {accepted} {accepted'} 
     subst (λ (x : ℕ). IsServed s limit first history pipe (served_told x line o accepted' last')) (sym named)
     (subst (λ (x : ℕ). IsServed s limit first history pipe (served_told link line o x last')) (sym counted)
     (subst (λ (x : Option ℕ). IsServed s limit first history pipe (served_told link line o accepted x)) (sym newest) is))
+
+-- the same, told otherwise
+pub told_as : (s : State) (limit : ℕ) (first : LinkState) (history : History) (pipe : Shown) (told served : ServedTold)
+    → told ≡ served → IsServed s limit first history pipe served → IsServed s limit first history pipe told
+told_as s limit first history pipe told served is served_so =
+    subst (λ (t : ServedTold). IsServed s limit first history pipe t) (sym is) served_so

@@ -1,5 +1,6 @@
 //! Serving one link at a hall.
 ghost use Rattle.std.specs.Prelude.{◌≡◌, ◌≤◌, true, [], ◌∷◌, length};
+ghost use Rattle.s7_outer.specs.Calls.{shut_down};
 ghost use Rattle.s7_turn.specs.Histories.{has, calls};
 ghost use Rattle.s7_turn.specs.Seats.{IsOf, made, seen, caller, callers};
 ghost use Rattle.s7_session.specs.Books.{own};
@@ -47,26 +48,34 @@ pub fn serve_link<M: Keeper, R: Wait + time::Clock, L: Link + Clock, G: Gate>(
     let mut seat = seat;
     let mut line = line;
     let Ok(mut session) = Session::new(alloc, link, guard) else {
-        line.shutdown();
-        let served = Served {
-            link,
-            line,
-            outcome: Outcome::Memory,
-            entries: 0,
-            last: None,
-        };
-        return (seat, served);
+        return (seat, shut(link, line, Outcome::Memory, 0, None));
     };
     let outcome = serve_session(rt, alloc, hall, &mut seat, gate, &mut session, &mut line);
+    let (entries, last) = (session.entries(), session.last());
+    (seat, shut(link, line, outcome, entries, last))
+}
+
+/// Shuts a link down that was served or for which there was no memory, and returns its result.
+fn shut<L: Link + Clock>(
+    link: u32,
+    line: L,
+    outcome: Outcome,
+    entries: u64,
+    last: Option<u64>,
+) -> Served<L>
+    ensures link { result.link ≡ link }
+    ensures entries { result.entries ≡ entries }
+    ensures told { told_of L.shows result ≡ served_told link (shut_down (L.shows line)) outcome entries last }
+{
+    let mut line = line;
     line.shutdown();
-    let served = Served {
+    Served {
         link,
         line,
         outcome,
-        entries: session.entries(),
-        last: session.last(),
-    };
-    (seat, served)
+        entries,
+        last,
+    }
 }
 
 /// Serves a link with a fresh session.
