@@ -12,8 +12,8 @@ use Rattle.s7_session.specs.Verdict.{Verdict, Entered, Full, ClockFailed, NoMemo
 -- says. A telegram that was refused for lack of room found as many as the limit says, and the history has them. Each
 -- telegram found at least `least` calls: those that the telegram before it found, and that telegram's own entry.
 --
--- So no telegram was refused while there was room: the link's entries before it are among the first `limit` calls, and
--- those after it aren't.
+-- So an entry that the link made after a telegram was refused has a number of at least `limit`. A history that has room
+-- for its calls has no such entry. This doesn't say when the telegram was refused.
 abbrev pub Found : ℕ → ℕ → ℕ → List Verdict → List Entry → Type 0
 Found limit count least [] entries = Unit {0}
 Found limit count least (Entered reply moment ∷ verdicts) [] = ⊥

@@ -7,9 +7,9 @@ pub fn legal_telegrams_found_their_calls()
     ensures { LegalIsFound }
 {}
 
-/// A law: conversely, take a history that has room for its calls, and in which the telegrams of a link found such calls.
-/// If one was refused for lack of room, the history is full, and none was entered afterwards. So what a legal history
-/// says of refused telegrams says no less than that each found a full history, and no more.
+/// A law: conversely, take a history that has room for its calls, and in which the telegrams of a link found such
+/// calls. If one was refused for lack of room, the history is full in the end, and none was entered after that one. So
+/// this is all that a legal history says of refused telegrams.
 pub fn telegrams_found_a_full_history()
     ensures { FoundIsFull }
 {}
