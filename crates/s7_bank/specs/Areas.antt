@@ -1,11 +1,11 @@
--- Which bank an area is in: a data block in the one of its number, every other area in the first. This is this
--- profile's own.
+-- Which bank an area is in. A data block is in the bank whose index is its number modulo the number of banks, and every
+-- other area is in the first bank. This is this profile's own.
 use Rattle.std.specs.Prelude.{ℕ, ◌%◌, ◌==◌, if◌then◌else◌}
 use Rattle.s7_item.specs.Codes.{data_blocks}
 use Rattle.s7_item.specs.declared.item.Item.{Item}
 use Rattle.s7_area.specs.declared.key.AreaKey.{AreaKey}
 
--- the bank of an area of this kind and number, among so many banks
+-- the bank of an area of this kind and number, if there are this many banks
 abbrev pub bank_of : ℕ → ℕ → ℕ → ℕ
 bank_of banks area number = if area == data_blocks then number % banks else 0
 

@@ -39,13 +39,13 @@ AnyFull [] = ⊥
 AnyFull (Full ∷ verdicts) = Unit {0}
 AnyFull (Entered reply ∷ verdicts) = AnyFull verdicts
 
--- none was entered
+-- no part was entered
 abbrev pub NoneEntered : List PartVerdict → Type 0
 NoneEntered [] = Unit {0}
 NoneEntered (Full ∷ verdicts) = NoneEntered verdicts
 NoneEntered (Entered reply ∷ verdicts) = ⊥
 
--- once the bank was full for a part, none is entered
+-- once the bank was full for a part, no later part is entered
 abbrev pub FullStays : List PartVerdict → Type 0
 FullStays [] = Unit {0}
 FullStays (Full ∷ verdicts) = NoneEntered verdicts

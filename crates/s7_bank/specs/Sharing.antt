@@ -76,7 +76,7 @@ module _ {M R P : Type 0} {g : Ghosts M R P} where
     pub new_is : slice_get news bank ≡ Some (Some new)
     pub met : IsMet hall one two new
 
-  -- the same of one bank, where the new seat has no place yet
+  -- the same of one bank, before the new seat is put into a list
   pub record MetOf (halls : List (Hall M R P)) (ones twos : List (Option (Seat M R P g))) (bank : ℕ)
       (new : Seat M R P g) : Type 0 where
     pub hall : Hall M R P
@@ -99,7 +99,7 @@ module _ {M R P : Type 0} {g : Ghosts M R P} where
     pub whole : (n : ℕ) → next seat ≡ Some n → ((x : ℕ) → x < n → has (callers seat) x ≡ true)
         → (g.history machine ≡ seen seat) × Each (λ e. has (callers seat) e.caller ≡ true) (g.history machine)
 
-  -- the same of a bank
+  -- the same of the hall, the seat and the machine at a bank
   pub record ClosedAt (halls : List (Hall M R P)) (seats : List (Option (Seat M R P g))) (machines : List M) (bank : ℕ)
       : Type 0 where
     pub hall : Hall M R P

@@ -6,8 +6,8 @@ use s7_area::AreaKey;
 use s7_item::Item;
 use s7_item::codes::DATA_BLOCKS;
 
-/// The bank of the area of this name, if there are `banks` banks: a data block is in the bank whose index is its number
-/// modulo `banks`, and every other area is in bank 0, registered or not.
+/// The bank of the area of this name, if there are `banks` banks. A data block is in the bank whose index is its number
+/// modulo `banks`, and every other area is in bank 0. The area needn't be registered.
 pub fn bank_of_key(banks: u8, key: AreaKey) -> u8
     requires { 0 < banks }
     ensures bank { result ≡ bank_of_key banks key }

@@ -16,7 +16,7 @@ pub struct Banks<M: Machine> {
 }
 
 impl<M: Machine> Banks<M> {
-    /// Has the machine of one bank carry out the request, in a turn of the seat's at that bank. Fails with `Full`
+    /// Waits for a turn of the seat at one bank, and has the machine there carry out the request. Fails with `Full`
     /// exactly if the history that it finds there has its greatest length.
     pub fn act<R: Wait>(
         &self,

@@ -10,9 +10,9 @@ use s7_turn::{Hall, Machine, Seat};
 use std::alloc::Global;
 
 impl<M: Machine + Drop> Banks<M> {
-    /// From 1 to 16 banks with these machines, one each and in their order, and the first seat. That seat's caller is 0
-    /// at each bank, and it hands out the numbers of the others, from 1. No machine may have carried out anything.
-    /// Returns `Memory` if an allocation fails; the machines are dropped then.
+    /// A bank for each of these 1 to 16 machines, in their order, and the first seat. The caller of that seat is 0 at
+    /// each bank, and the seat hands out the numbers of the other callers, from 1 on. No machine may have carried out
+    /// anything. Returns `Memory` if an allocation fails; the machines are dropped then.
     pub fn over(alloc: Global, machines: Vec<M>) -> Result<(Banks<M>, BankSeat<M>), Memory>
         requires some { 1 ≤ length machines.items }
         requires few { length machines.items ≤ 16 }

@@ -18,7 +18,7 @@ pub struct BankSeat<M: Machine> {
 }
 
 impl<M: Machine> BankSeat<M> {
-    /// A seat of no bank.
+    /// A seat at no bank.
     pub(crate) fn new() -> BankSeat<M>
         ensures { result.seats.items ≡ [] }
     {
@@ -48,7 +48,7 @@ impl<M: Machine> BankSeat<M> {
         }
     }
 
-    /// Takes the seat at a bank out.
+    /// Takes out the seat at a bank.
     pub(crate) fn take(&mut self, bank: usize) -> Option<Seat<M>>
         requires { bank < array_vec_len self.old.seats }
         ensures out { slice_get self.old.seats.items bank ≡ Some result }

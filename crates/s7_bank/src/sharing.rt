@@ -13,9 +13,9 @@ use s7_turn::{Machine, Seat};
 use std::sync::Wait;
 
 impl<M: Machine> Banks<M> {
-    /// Splits a seat of a new caller off this one at each bank, in rising order, without waiting. The new caller's
-    /// seats have seen as much of the histories, and it has made no call. It has the same number at each bank, which
-    /// was next; the next number is then one higher. Allocates nothing.
+    /// Splits a seat of a new caller off this one at each bank, in rising order, without waiting. The new caller has
+    /// made no call, and its seats have seen as much of the histories as this one's. Its number is the same at each
+    /// bank: the next one that this seat hands out. The number after it is then the next. Allocates nothing.
     pub fn split(&self, seat: &mut BankSeat<M>) -> BankSeat<M>
         requires seat { IsSeatOf self.now.halls.items seat.old.seats.items }
         requires number { (n : ℕ) × (next_of seat.old.seats.items ≡ Some n) × (n < most) }
@@ -77,7 +77,7 @@ impl<M: Machine> Banks<M> {
         new
     }
 
-    /// Joins two seats at one bank. Both leave their places.
+    /// Joins two seats at one bank. Both are taken out of their lists.
     fn meet_at(&self, one: &mut BankSeat<M>, two: &mut BankSeat<M>, bank: usize) -> Seat<M>
         requires one { IsSeatAt self.now.halls.items one.old.seats.items bank }
         requires two { IsSeatAt self.now.halls.items two.old.seats.items bank }

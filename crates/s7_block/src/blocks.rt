@@ -79,7 +79,7 @@ impl Blocks {
         self.blocks.as_slice()
     }
 
-    /// The block of this name, borrowed. `None` exactly if there is none.
+    /// The block of this name, borrowed. `None` exactly if no block has this name.
     pub fn get(&self, kind: u8, number: u16) -> Option<&Block>
         ensures block { option_copied result ≡ block_at self.now kind number }
         ensures kind { IfSome result (λ block. is_stored_kind block.now.kind ≡ true) }
@@ -156,7 +156,8 @@ impl Blocks {
         }
     }
 
-    /// Removes the block of this name and hands it back. `None` exactly if there is none; nothing changes then.
+    /// Removes the block of this name and hands it back. `None` exactly if no block has this name; nothing changes
+    /// then.
     pub fn delete(&mut self, kind: u8, number: u16) -> Option<Block>
         ensures block { result ≡ block_at self.old kind number }
         ensures others { self.new ≡ without_block self.old kind number }

@@ -80,7 +80,7 @@ impl DownloadSide {
         self.assembly.add(octets, more)
     }
 
-    /// The image of the finished download of this name. `None` exactly if no such download is held.
+    /// The image of the finished download of this name. `None` exactly if no finished download of this name is held.
     pub fn image(&self, kind: u8, number: u16) -> Option<&[u8]>
         ensures { option_map (λ octets. octets.now) result ≡ finished_image self.now kind number }
     {

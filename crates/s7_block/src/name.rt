@@ -39,8 +39,8 @@ pub fn write_digits(number: u32, into: &mut [u8])
     }
 }
 
-/// The block that the octets name, at the location `place`. `None` exactly if they aren't the eight octets of such
-/// a name, there is no such kind, or the number is above 65,535.
+/// The block that the octets name, at the location `place`. `None` exactly if the octets aren't the eight octets of a
+/// name with this location, if there is no such kind, or if the number is above 65,535.
 pub fn read_name(octets: &[u8], place: u8) -> Option<BlockName>
     ensures { result ≡ named octets.now place }
 {

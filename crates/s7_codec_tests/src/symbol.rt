@@ -483,7 +483,8 @@ fn is_whole_number(alloc: Global, number: i16, room: &mut Room) -> Option<bool> 
     Some(is_value(TagKind::Int, text.as_bytes(), &number.to_be_bytes(), room))
 }
 
-/// The first whole number of two octets, by its octets, that has no text that gives it back.
+/// The first whole number of two octets, from the least on, whose text and octets don't give each other. It is returned
+/// as the number without sign that has its octets. `None` if there is none.
 fn unmet_whole_number(alloc: Global) -> Option<usize> {
     let mut room = EMPTY;
     for number in i16::MIN..=i16::MAX {

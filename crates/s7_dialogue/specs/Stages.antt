@@ -209,7 +209,7 @@ can_ask_all job found from (left.Writes grouped) =
 abbrev pub can_fly : Job → ℕ → Flight → Bool
 can_fly job found flight = nat_le flight.item most_parts && can_ask job found flight.from flight.asked
 
--- there is room for each octet of several items that are read
+-- there is a place for each octet that a read of several items gives
 abbrev pub has_places : Job → ℕ → Bool
 has_places (job.ReadMany items) found = nat_le (octet_count_of items) found
 has_places _ found = true

@@ -39,9 +39,10 @@ fn hall_of<M: Keeper + Drop>(alloc: Global, keeper: M) -> Result<(Hall<M>, Seat<
 /// history. Each link is served in a thread of its own; if no thread can be created, it is served before the next link
 /// is accepted. Links are numbered from 1 in the order in which they come. Each begins with this guard.
 ///
-/// Returns once every accepted link has ended, and no link is left, the door failed or `most` links came. All memory
-/// except that of the links' sessions is allocated before the door is asked to listen. Returns `Memory` if one of these
-/// allocations fails; the door is then unused. Returns `Door` if the door can't listen, or fails before a link comes.
+/// Returns once every accepted link has ended and no further one is accepted: no link is left, the door failed, or
+/// `most` links came. All memory except that of the links' sessions is allocated before the door is asked to listen.
+/// Returns `Memory` if an allocation fails before the door is asked to listen; the door is then unused. Returns `Door`
+/// if the door can't listen, or fails before a link comes.
 pub fn serve_door<
     M: Keeper + Send + Drop,
     R: Threads + Wait + time::Clock + Sync,

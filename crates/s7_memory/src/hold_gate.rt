@@ -13,7 +13,7 @@ use std::thread;
 pub struct HoldGate {
     /// The link whose first request is delayed.
     held: u32,
-    /// The link whose second request releases it.
+    /// The link whose second request releases the delayed one.
     until: u32,
     /// The greatest number of looks.
     turns: u64,

@@ -91,7 +91,7 @@ impl Files for MemoryFiles {
 
     ghost shows = { files_of };
 
-    /// Reads the file. `Failed` is returned exactly at the chosen call and if there is no file, and is counted
+    /// Reads the file. `Failed` is returned exactly if this is the chosen call or there is no such file. It is counted
     /// once.
     fn read(&mut self, alloc: Global, path: &str, into: &mut Vec<u8>) -> Result<(), FileFault>
         requires { into.old.items ≡ [] }

@@ -186,8 +186,8 @@ impl<O: Observer> Book<O> {
     /// The plant after the first `n` entries; `n` may be at most the journal's length. It starts from the newest kept
     /// image of the plant at or before entry `n` (one is kept after every 4,096th entry) and applies the entries since.
     /// Each application counts as one step, so there are `n` mod 4,096 steps. The images of blocks that these entries
-    /// store are copied before the first step. Returns `Memory` if an allocation for the plant or for these copies
-    /// fails; then no step was taken.
+    /// store are copied before the first step. Returns `Memory` if an allocation for the plant or for the copies of
+    /// images fails; then no step was taken.
     pub fn image_at<S: Ledger>(
         &self,
         alloc: Global,

@@ -15,8 +15,8 @@ use Rattle.s7_relay.specs.declared.passage.Passage.TheVariants as passage
 use Rattle.s7_relay.specs.declared.passage.Relayed.{Relayed}
 use Rattle.s7_relay.specs.declared.windows.Window.{Window}
 
--- HOW FAR A JOB GOT. A client that isn't connected is dialled and connected first. A job that doesn't fit into one
--- telegram isn't begun.
+-- HOW FAR A JOB GOT. If the client isn't connected, the server is dialled and the client connected first. A job that
+-- doesn't fit into one telegram isn't begun.
 abbrev pub GetsTo : {M : Type 0} → (M → Shown) → FarServer → Job → FarModel M → FarModel M → Passage → Type 0
 GetsTo shows server job old new passage.Near = ⊥
 GetsTo shows server job old new passage.Undialled =

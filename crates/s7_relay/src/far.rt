@@ -17,7 +17,7 @@ pub struct Far<K, M> {
     /// The host of the server.
     pub(crate) host: String,
     pub(crate) port: u16,
-    /// The link that was dialled last; `None` before the first.
+    /// The link that was dialled last; `None` if none was dialled.
     pub(crate) link: Option<M>,
     pub(crate) client: Connection,
     /// The number of connects and jobs in which a link failed, held at 2^64 - 1.
@@ -29,7 +29,7 @@ pub struct Far<K, M> {
 /// What came of an attempt to reach the far server.
 #[derive(Drop)]
 pub(crate) enum Reach {
-    /// The client is connected. It has the result of the connect; `None` if the client was connected before.
+    /// The client is connected. The field has the result of the connect; `None` if the client was connected before.
     Connected(Option<JobResult>),
     /// The dial or the connect failed.
     Not(Passage),
@@ -40,7 +40,8 @@ impl<K: Dial<M> + Drop, M: Link + Drop> Far<K, M> {
     ghost use Rattle.s7_relay.specs.Far.{Does, Lacks, far_model, server_of};
     ghost use Rattle.s7_relay.specs.Reaching.{HasReached, ReachesOrNot};
 
-    /// Carries out a far job, in one telegram. A client that isn't connected is dialled and connected first. Returns
+    /// Carries out a far job, in one telegram, and returns how far it got. If the client isn't connected, the server
+    /// is dialled and the client connected first. A job that doesn't fit into one telegram isn't begun. Returns
     /// `Memory` if an allocation fails; the job wasn't begun then.
     pub(crate) fn ask(&mut self, alloc: Global, job: Job) -> Result<Passage, Memory>
         ensures gets { IfOk result (λ passage. GetsTo M.shows (server_of self.old) job
@@ -60,7 +61,8 @@ impl<K: Dial<M> + Drop, M: Link + Drop> Far<K, M> {
         Ok(Passage::Asked { connect, job: told })
     }
 
-    /// Dials and connects, if the client isn't connected.
+    /// If the client isn't connected, dials the server and connects the client. Returns `Memory` if an allocation
+    /// fails.
     fn reach(&mut self, alloc: Global) -> Result<Reach, Memory>
         ensures reaches { IfOk result (ReachesOrNot M.shows (server_of self.old)
             (far_model K.shows M.shows self.old) (far_model K.shows M.shows self.new)) }
@@ -84,7 +86,8 @@ impl<K: Dial<M> + Drop, M: Link + Drop> Far<K, M> {
         }
     }
 
-    /// Carries out a job over the link, and shuts the link if the client isn't connected then.
+    /// Carries out a job over the link, and shuts the link if the client isn't connected afterwards. Returns `Memory`
+    /// if an allocation fails; the job wasn't begun then.
     fn carry_out(&mut self, alloc: Global, job: Job) -> Result<JobResult, Memory>
         requires linked { IsSome self.old.link }
         ensures does { IfOk result (λ told. Does (server_of self.old) job

@@ -1,4 +1,4 @@
-//! A doer that relays.
+//! A doer that asks another server, as its client, what a link asks of windows.
 ghost use Rattle.std.specs.Prelude.{◌≡◌, ◌≤◌, [], length, IfOk, OnOk, OnErr, IsTrue, ◌↔◌, option_map, vec_len};
 ghost use Rattle.std.specs.Str.{IsUtf8};
 ghost use Rattle.std.specs.Vec.{vec_capacity};
@@ -40,8 +40,9 @@ impl<K: Dial<M> + Drop, M: Link + Drop> RelayDoer<K, M> {
     ghost use Rattle.s7_relay.specs.Travel.{request_codes};
 
     /// A doer for these windows on the server that the dial reaches at this host and port. It has relayed nothing. The
-    /// host is UTF-8, and the limit is from 1 to 262,144; the PDU of `config` is from 64 to 1,920, its jobs from 1 to
-    /// 8, its polls at least 1. The list of what it keeps is allocated here. Returns `Memory` if an allocation fails.
+    /// host is UTF-8, and the limit is from 1 to 262,144. `config` has a PDU from 64 to 1,920, 1 to 8 jobs, and at
+    /// least 1 poll. The list of the telegrams that are kept is allocated here. Returns `Memory` if an allocation
+    /// fails.
     pub fn new(
         alloc: Global,
         windows: Windows,
@@ -85,7 +86,7 @@ impl<K: Dial<M> + Drop, M: Link + Drop> RelayDoer<K, M> {
         self.kept.as_slice()
     }
 
-    /// The far link that was dialled last, borrowed; `None` before the first.
+    /// The far link that was dialled last, borrowed; `None` if none was dialled.
     pub fn far_link(&self) -> Option<&M>
         ensures { option_map (λ link. M.shows link.now) result ≡ (doer_model K.shows M.shows self.now).far.link }
     {
@@ -99,8 +100,9 @@ impl<K: Dial<M> + Drop, M: Link + Drop> RelayDoer<K, M> {
         self.kept.len() as u64 == self.limit
     }
 
-    /// Asks far what travels of a request, puts the answer into the reply, and returns a copy of it. All memory that
-    /// it needs behind the far job is allocated before.
+    /// Asks the far server for the items of a request that aren't refused near, and puts the answer to the request
+    /// into the reply. Returns a copy of the answer, and how far the request got. All memory that is needed after the
+    /// far job is allocated before it. Returns `Memory` if an allocation fails; the far job wasn't begun then.
     fn relay(
         &mut self,
         alloc: Global,
@@ -134,7 +136,8 @@ impl<K: Dial<M> + Drop, M: Link + Drop> RelayDoer<K, M> {
         Ok((kept, passage))
     }
 
-    /// Asks far what travels of a request whose items have these near codes.
+    /// Asks the far server for the items of a request that have the near code FF, and returns how far the request got.
+    /// `near` has the near codes of its items. Returns `Memory` if an allocation fails; the far job wasn't begun then.
     fn pass(&mut self, alloc: Global, request: &Request, near: &[u8]) -> Result<Passage, Memory>
         requires ready { IsReady request.now }
         requires near { near.now ≡ request_codes self.old.windows request.now }
@@ -190,8 +193,8 @@ impl<K: Dial<M> + Drop, M: Link + Drop> Doer for RelayDoer<K, M> {
     ghost keeps_both = { λ a b c p q. goes_on_both M.shows (doer_model K.shows M.shows a) (doer_model K.shows M.shows b)
         (doer_model K.shows M.shows c) p q };
 
-    /// Relays a telegram and keeps it. `Memory` is returned only before the far job began. The far link may have been
-    /// dialled, and its client connected, by then.
+    /// Relays a telegram and keeps it. `Memory` is returned only before the far job began. By then a far link may have
+    /// been dialled, and the client connected.
     fn act(&mut self, alloc: Global, ask: Ask, reply: &mut Reply) -> Result<u64, NotDone> {
         if self.is_full() {
             return Err(NotDone::Full(ask));

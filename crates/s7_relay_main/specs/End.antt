@@ -30,7 +30,7 @@ Serves shows None files dial pipe line (Some result) (Some doer) = ⊥
 Serves shows (Some told) files dial pipe line (Some result) (Some doer) =
     Relays shows told files dial pipe line result doer
 
--- a link was served, and its report was printed so
+-- a link was served, and this holds of its report
 abbrev pub HasReport : {M : Type 0} → Option Outcome → Option (DoerModel M) → (List ℕ → Type 0) → Type 0
 HasReport None doer printed = ⊥
 HasReport (Some result) None printed = ⊥
@@ -68,7 +68,8 @@ FileFails (Some told) old new printed = PathFails told.windows old new printed
 
 -- ---- how it ended
 
--- WHY NO DOER WAS OPENED, by how the program ended, and the files and the output before and after
+-- WHY NO DOER WAS OPENED. For each way in which the program ended this says what holds of the files and the output,
+-- before and after.
 abbrev pub Unopened : RelayTold → FilesShown → FilesShown → OutShown → OutShown → Ended → Type 0
 Unopened told files files' out out' ended.Windows = RefusesWindows told.windows files (Printed out out')
 Unopened told files files' out out' ended.File = PathFails told.windows files files' (Printed out out')
@@ -76,8 +77,8 @@ Unopened told files files' out out' ended.Memory = Printed out out' memory_line
 Unopened told files files' out out' ended.Done = ⊥
 Unopened told files files' out out' ended.Output = ⊥
 
--- HOW THE PROGRAM ENDED whose words ask for this, by what was served if that began, and the files and the output before
--- and after
+-- HOW THE PROGRAM ENDED, if its words ask for this. For each way in which it ended this says what holds of the outcome
+-- and the doer, and of the files and the output, before and after.
 abbrev pub Ends : {M : Type 0} → RelayTold → Option Outcome → Option (DoerModel M) → FilesShown → FilesShown
     → OutShown → OutShown → Ended → Type 0
 Ends told result doer files files' out out' ended.Done = HasReport result doer (Gains out out')

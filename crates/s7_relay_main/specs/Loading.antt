@@ -12,8 +12,8 @@ use Rattle.s7_relay.specs.declared.windows.Window.{Window}
 
 -- ---- a file that was read
 
--- THE WINDOWS FILE WAS READ: its octets, no more than the limit and those of the file if the files show them, state
--- these windows
+-- THE WINDOWS FILE WAS READ: the octets that were read state these windows. They are no more than the limit, and they
+-- are those of the file if the files show them.
 pub record ReadsWindows (path : List ℕ) (files : FilesShown) (windows : List Window) : Type 0 where
   pub octets : List ℕ
   pub sized : length octets ≤ file_limit
@@ -28,8 +28,8 @@ pub record IsFaultyAt (text : List ℕ) (n : ℕ) : Type 0 where
   pub first : IsFirstFault (lines text) fault
   pub line : fault.line ≡ n
 
--- the octets read, no more than the limit and those of the file if the files show them, have their first faulty line
--- here
+-- The first faulty line of the octets that were read is the one of this number. They are no more than the limit, and
+-- they are those of the file if the files show them.
 pub record HasFaultyLine (path : List ℕ) (files : FilesShown) (n : ℕ) : Type 0 where
   pub octets : List ℕ
   pub sized : length octets ≤ file_limit

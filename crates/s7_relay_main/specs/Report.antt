@@ -14,7 +14,8 @@ use Rattle.s7_relay_main.specs.declared.ended.Ended.TheVariants as ended
 abbrev pub near_link : ℕ
 near_link = 1
 
--- THE REPORT of a link that ended so: its line, and the number of telegrams that the doer kept
+-- THE REPORT of a link with this outcome: the line of the link, and a line with the number of telegrams that the doer
+-- kept
 abbrev pub report_text : Outcome → ℕ → List ℕ
 report_text result entries = line_with near_link (outcome_text result) entries ++ journal_line entries
 

@@ -3,7 +3,7 @@ use s7_outer::Link;
 use s7_relay::RelayDoer;
 use s7_session::Outcome;
 
-/// How the program ended, if the words are no usage.
+/// How the program ended, if the words are a command line.
 #[derive(Clone, Copy, Debug, PartialEq, Eq)]
 pub(crate) enum Ended {
     /// The report was printed.

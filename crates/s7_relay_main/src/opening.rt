@@ -54,7 +54,8 @@ pub(crate) fn open_doer<F: Files, M: Link + Drop, K: Dial<M> + Drop, O: Out>(
     }
 }
 
-/// How the client of the far server connects; a job times out after so many polls.
+/// How the client of the far server connects. A job times out after this number of polls that found the link not
+/// ready.
 fn config_of(polls: u32) -> Config
     ensures { result ≡ relay_config polls }
 {

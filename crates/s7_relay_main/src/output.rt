@@ -13,7 +13,8 @@ use std::alloc::{AllocError, Global};
 /// The number of the one link.
 pub(crate) const LINK: u32 = 1;
 
-/// Prints the report of a link that ended so, of which so many telegrams are kept, and returns how that ended.
+/// Prints the report of a link with this outcome, of which this number of telegrams is kept. If memory ran out, prints
+/// the line for that instead. Returns how that ended.
 pub(crate) fn print_report<O: Out>(
     alloc: Global,
     outcome: Outcome,

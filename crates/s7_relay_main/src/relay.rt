@@ -57,7 +57,7 @@ pub const MEMORY: u8 = 9;
 ///
 /// `outcome` and `doer` are `Some` if the session began. `doer` has the telegrams that it answered, at most as many as
 /// the words state, and the far link that was dialled last. If they are `None`, `line` is `pipe`, unused. The dial is
-/// dropped then; it wasn't called, which no clause can say. No file is changed.
+/// dropped then. It wasn't called, but no clause can say so. No file is changed.
 pub fn relay_main<
     R: Wait + time::Clock,
     F: Files,
@@ -134,7 +134,7 @@ pub fn relay_main<
     }
 }
 
-/// The words after the name of the program, which the parser passes over.
+/// The name of the program, which the parser passes over, and then the words.
 fn with_name<'a>(alloc: Global, words: &[&'a str]) -> Result<Vec<&'a str>, AllocError>
     ensures { IfOk result (λ named. map (λ w. w.now) named.items ≡ codes "s7relay" ∷ map (λ w. w.now) words.now) }
 {

@@ -114,8 +114,8 @@ fn client_count(rig: &Option<RigEnd>) -> u64 {
     }
 }
 
-/// Compares what the completion was notified of: each result of the run, or of a rig's first client, and as the row
-/// states.
+/// Compares the results that the completion was notified of with those that the row states, and their number with that
+/// of the run's results, or of the results of a rig's first client.
 fn compare_done(row: &Row<'_>, left: &Left, differences: &mut String) -> Result<(), Wrong> {
     let Some(counter) = left.done else {
         return note("completion", "one", "none", differences);

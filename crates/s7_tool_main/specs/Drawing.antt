@@ -26,7 +26,7 @@ unfoldable pub after_lines : ℕ → ℕ → ℕ
 after_lines zero x = x
 after_lines (suc more) x = after_lines more (after_line x)
 
--- a script
+-- the script that is drawn from x on
 abbrev pub script_at : ℕ → List Job
 script_at x = script_with (lines_at 200 x)
 

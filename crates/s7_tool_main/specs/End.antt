@@ -21,8 +21,8 @@ use Rattle.s7_tool_main.specs.Rigging.{FailsOneFile, RanRig, RefusesFile, RigWan
 
 -- ---- what was carried out
 
--- A COMMAND WAS CARRIED OUT, and ended in this way: `run` ran its script, `rig` and `gen` their rig, and `partner` its
--- partners
+-- A COMMAND WAS CARRIED OUT, and ended in this way: `run` ran its script, `rig` and `gen` ran their rig, and `partner`
+-- ran its partners
 abbrev pub CarriesOut : {L C : Type 0} → (L → Shown) → Option ToolTold → FilesShown → DialShown L → OutShown → OutShown
     → ToolEnd L C → Ended → Type 0
 CarriesOut shows None files dial out out' end how = ⊥

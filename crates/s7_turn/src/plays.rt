@@ -84,7 +84,7 @@ impl<B, R, O> Play<Option<B>, View<R, O>> for Compare {
     ghost then = { compared };
 }
 
-/// A step on a word for seats that sleep.
+/// A step on a word by which seats sleep and are woken. It shows nothing of the table.
 pub(crate) struct Ring;
 
 impl<B, R, O> Play<Option<B>, View<R, O>> for Ring {

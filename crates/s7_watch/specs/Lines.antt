@@ -36,7 +36,7 @@ failed_line round code = round_text round ++ codes " failed " ++ encode_upper (f
 abbrev pub line_if_new : ℕ → Tag → Option Sample → Sample → Text
 line_if_new round tag last sample = if is_new last sample then sample_line round tag sample else []
 
--- of these tags with these last samples, the line of each sample that is new
+-- the line of each of these samples that is new; the tags have these last samples
 unfoldable pub new_lines : ℕ → List Tag → List (Option Sample) → List Sample → Text
 new_lines round [] lasts samples = []
 new_lines round (tag ∷ tags) [] samples = []
@@ -54,7 +54,7 @@ nothing_seen tags = map unseen tags
 abbrev pub seen_now : Sample → Option Sample
 seen_now sample = Some sample
 
--- the last samples after these of the tags from this index on
+-- the last samples of all tags, after the tags from this index on got these samples
 abbrev pub with_samples : List (Option Sample) → ℕ → List Sample → List (Option Sample)
 with_samples lasts first samples =
     take first lasts ++ (map seen_now samples ++ drop (first + length samples) lasts)

@@ -17,11 +17,11 @@ pub record Look : Type 0 where
   pub first : ℕ
   pub tags : List Tag
 
--- the number of reads of a round over so many tags
+-- the number of reads of a round over this number of tags
 abbrev pub look_count : ℕ → ℕ
 look_count tags = div_ceil tags most_tags
 
--- the elements of a list that belong to the tags of the read of this number, from 0 on
+-- the elements of a list at the indices of those tags that the read of this number has; reads are numbered from 0
 abbrev pub part : {A : Type 0} → ℕ → List A → List A
 part number all = take most_tags (drop (most_tags * number) all)
 

@@ -24,7 +24,7 @@ abbrev pub Hands : List Look → WatchTold → WatchTold → Option Job → Type
 Hands [] old new given = (given ≡ None) × (new ≡ old)
 Hands (look ∷ ahead) old new given = (given ≡ Some (job_of look)) × (new ≡ record old { ahead = ahead; out = Some look })
 
--- the job is that of the read that is out
+-- the job is that of the read whose result wasn't taken
 abbrev pub IsOut : Option Look → Job → Type 0
 IsOut None asked = ⊥
 IsOut (Some look) asked = asked ≡ job_of look

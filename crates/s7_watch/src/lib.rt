@@ -1,4 +1,4 @@
-//! A logger: rounds of reads of all tags, and the lines of the samples that changed.
+//! A watcher of tags: rounds of reads of all tags, and the lines of the samples that changed.
 #![tactic(auto)]
 
 mod laws;

@@ -10,8 +10,8 @@ use s7_outer::Memory;
 use s7_symbol::{Tag, TagKind, add_shown};
 use std::alloc::{AllocError, Global};
 
-/// Appends the line of a sample, if the sample is the first of its tag or differs from the last one. Returns `Memory` if
-/// an allocation fails.
+/// Appends the line of a sample, if the sample is the first of its tag or differs from the last one. Returns `Memory`
+/// if an allocation fails.
 pub(crate) fn add_if_new(
     alloc: Global,
     text: &mut Vec<u8>,

@@ -16,7 +16,7 @@ use s7_outer::Memory;
 use s7_symbol::Tag;
 use std::alloc::Global;
 
-/// The most tags of a read.
+/// The greatest number of tags of a read.
 pub(crate) const MOST_TAGS: usize = 20;
 
 /// Copies of the tags, before their first samples. Returns `Memory` if an allocation fails.
@@ -32,7 +32,7 @@ pub(crate) fn watch_all(alloc: Global, tags: &[Tag]) -> Result<Vec<Watched>, Mem
     Ok(all)
 }
 
-/// The tags of the read of this number in a round.
+/// The tags that the read of this number in a round has.
 pub(crate) fn looked(all: &[Watched], number: usize) -> &[Watched]
     requires { number < look_count (length all.now) }
     ensures tags { map tag_in result.now ≡ part number (map tag_in all.now) }

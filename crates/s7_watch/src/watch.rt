@@ -20,8 +20,9 @@ pub(crate) struct Out {
     pub(crate) number: usize,
 }
 
-/// A watcher of tags. Its jobs are rounds of reads of all tags, with at most twenty tags a read. It gives the lines of the
-/// samples that differ from the last ones.
+/// A watcher of tags. Its jobs are rounds of reads of all tags, with at most twenty tags a read. A sample is the return
+/// code of a tag's item and the octets that were read. The watcher gives the line of each sample that is the first of
+/// its tag or differs from the last one.
 #[derive(Drop)]
 pub struct Watch {
     pub(crate) watched: Vec<Watched>,
@@ -40,8 +41,8 @@ pub struct Watch {
 impl Watch {
     ghost use Rattle.s7_watch.specs.WatchShown.{look_out, tags_of, watch_told};
 
-    /// A watcher before its first round. There is at least one tag. It allocates room for one sample of each tag here.
-    /// Returns `Memory` if an allocation fails.
+    /// A watcher before its first round. `tags` has at least one tag. Room for one sample of each tag is allocated
+    /// here. Returns `Memory` if an allocation fails.
     pub fn new(alloc: Global, tags: &Tags, rounds: u32) -> Result<Watch, Memory>
         requires { 0 < length tags.now }
         ensures { IfOk result (λ watch. watch_told watch ≡ fresh tags.now rounds) }
@@ -56,8 +57,8 @@ impl Watch {
         })
     }
 
-    /// The job of the next read. There is none exactly if every read was handed out, or one failed. Returns `Memory` if
-    /// the allocation for the job fails; then the watcher is unchanged.
+    /// The job of the next read. `None` exactly if the jobs of all reads were handed out, or a read failed. Returns
+    /// `Memory` if the allocation for the job fails; then the watcher is unchanged.
     pub fn job(&mut self, alloc: Global) -> Result<Option<Job>, Memory>
         ensures ok { IfOk result (λ given.
             Hands (watch_told self.old).ahead (watch_told self.old) (watch_told self.new) given) }
@@ -92,8 +93,8 @@ impl Watch {
         }
     }
 
-    /// The lines of the result of the read that was handed out last. Returns `Memory` if an allocation fails; then the
-    /// watcher is unchanged, and the same result may be taken again.
+    /// The lines of the result of the read whose job was handed out last. Returns `Memory` if an allocation fails; then
+    /// the watcher is unchanged, and the same result may be taken again.
     pub fn take(&mut self, alloc: Global, told: &JobResult) -> Result<Octets, Memory>
         requires out { IsOut (watch_told self.old).out told.now.job }
         requires form { told.now.code ≡ 0
@@ -114,7 +115,7 @@ impl Watch {
         }
     }
 
-    /// The lines of the samples of a read, which are kept as the last ones.
+    /// The lines of the samples of a read. The samples are kept as the last ones of their tags.
     fn take_read(&mut self, alloc: Global, out: Out, told: &JobResult) -> Result<Octets, Memory>
         requires number { out.number < look_count (length self.old.watched.items) }
         requires form { IsReadOf (look_out (tags_of self.old) out).tags told.now }

@@ -46,14 +46,15 @@ AreSampledAt opening history link (group ∷ groups) (number ∷ numbers) sample
     (now : List Sample) × (later : List Sample) × (samples ≡ now ++ later)
     × IsSampledAt opening history link group number now × AreSampledAt opening history link groups numbers later
 
--- THE SAMPLES OF A READ: those of the groups that telegrams of this PDU take, which have an entry each
+-- THE SAMPLES OF A READ: those of its groups of items. A telegram of this PDU takes one group, and each group has an
+-- entry.
 abbrev pub IsSampled : State → History → ℕ → ℕ → List Tag → List ℕ → List Sample → Type 0
 IsSampled opening history link pdu tags numbers samples =
     AreSampledAt opening history link (groups_of pdu false (items_of tags)) numbers samples
 
 -- ---- the reads of a watcher
 
--- these are the samples of the reads that succeeded, in order, and after them the line of one that failed, or nothing
+-- these are the samples of the reads that succeeded, in order; the text is the line of the read that failed, or nothing
 unfoldable pub AreSampled : State → History → ℕ → ℕ → List Look → List JobResult → List (List ℕ) → List (List Sample)
     → Text → Type 0
 AreSampled opening history link pdu [] results places readings end = (readings ≡ []) × (end ≡ [])
@@ -65,8 +66,8 @@ AreSampled opening history link pdu (look ∷ ahead) (told ∷ results) (numbers
     (told.code ≡ 0) × IsSampled opening history link pdu look.tags numbers samples
     × AreSampled opening history link pdu ahead results places readings end
 
--- THIS IS THE TEXT OF A WATCHER of these tags: the lines of the samples of its reads, which come after its connect. The
--- numbers of all its entries in the history rise
+-- THIS IS THE TEXT OF A WATCHER of these tags: the lines of the samples of its reads, and the line of a read that
+-- failed. The reads are the jobs after its connect. The numbers of all its entries in the history rise.
 pub record IsWatched (opening : State) (history : History) (pdu : ℕ) (tags : List Tag) (rounds : ℕ) (c : ClientTold)
     (text : Text) : Type 0 where
   pub readings : List (List Sample)
@@ -76,7 +77,8 @@ pub record IsWatched (opening : State) (history : History) (pdu : ℕ) (tags : L
   pub text_is : text ≡ sampled_lines (nothing_seen tags) (looks tags rounds) readings ++ end
   pub rise : Rise (all_of c.places)
 
--- A WATCHER of these tags connects, reads all of them in rounds, and disconnects; it does so as soon as a read fails
+-- A WATCHER of these tags connects, reads all of them in rounds, and disconnects. It disconnects as soon as a read
+-- fails.
 abbrev pub watch_script : List Tag → ℕ → Script
 watch_script tags rounds = record {
   jobs = job.Connect ∷ (jobs_of (looks tags rounds) ++ job.Disconnect ∷ []);

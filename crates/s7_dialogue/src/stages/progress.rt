@@ -98,7 +98,7 @@ impl Running {
     }
 
     /// Writes the message of the next telegram to be queued as the only message in the buffer, and returns true.
-    /// Returns false if there is none; the buffer stays as it is then.
+    /// Returns false if no telegram is to be queued; the buffer stays as it is then.
     pub fn write_next(&mut self, config: &Config, message: &mut Buffer) -> bool
         requires room { message.old.room ≡ most_pdu }
         ensures some { result ≡ true → (size : ℕ) → unput_of config.now size self.old

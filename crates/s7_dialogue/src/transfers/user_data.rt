@@ -329,7 +329,8 @@ pub(crate) fn number_at(octets: &[u8], place: usize) -> u16
     u16::from(octets[place]) * 256 + u16::from(octets[place + 1])
 }
 
-/// Reads octets with these parameters; a refusal has no octets.
+/// What the octets of a message with these parameters are in answer to a question about `subject`: a refusal, which has
+/// no octets, or a piece that continues `so_far`. `None` if they are no answer.
 fn read_brought<'a>(
     subject: Subject,
     so_far: &[u8],

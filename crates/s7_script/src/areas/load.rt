@@ -35,8 +35,8 @@ pub enum LoadFault {
 ///
 /// A word that begins with `DB` and contains `=` is inline: `DBn=HEX`, where `n` is a decimal number of at most ten
 /// digits from 1 to 65,535, and `HEX` an even number of hexadecimal digits in either case for 1 to 2,097,152 octets. It
-/// names the data block `n` alone, with these octets and without a guard. If it can't be read, the result is `Line(1)`.
-/// It touches no file.
+/// names the data block `n` alone, with these octets and without a guard. If an inline word can't be read, the result
+/// is `Line(1)`. An inline word touches no file.
 ///
 /// Every other word is a path. The file is read as `read_areas` reads it, with its guard if it has one. Returns
 /// `Failed` only if this path's fault counter rose in this call, `TooLong` exactly if more than 67,108,864 octets were
