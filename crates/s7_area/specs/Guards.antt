@@ -12,7 +12,7 @@ pub record IsPassword (octets : List ℕ) : Type 0 where
   pub printable : AllByRecursion (λ octet. (0x21 ≤ octet) × (octet ≤ 0x7E)) word
   pub filled : octets ≡ word ++ replicate (8 - length word) 0x20
 
--- a guard: level 2 guards writes, and level 3 reads of items too
+-- a guard: level 2 guards writes, and level 3 guards reads of items too
 pub record IsGuard (guard : Guard) : Type 0 where
   pub level : IsTrue (guard.level == 2 || guard.level == 3)
   pub password : IsPassword guard.password

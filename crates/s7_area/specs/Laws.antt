@@ -11,13 +11,14 @@ use Rattle.s7_area.specs.Memory.{Memory, key_cmp, area_octets, with_area, shape_
 use Rattle.s7_area.specs.Registers.{most_octets, most_in_all, total_of, is_wrong_size, is_db_too_many, fault_of}
 use Rattle.s7_area.specs.declared.key.AreaKey.{AreaKey}
 
--- the bit that is turned on or off is on or off then, and every other bit of the octet stays
+-- a bit that was turned on or off is on or off afterwards, and every other bit of the octet stays
 abbrev pub BitsStandAlone : Type 0
 BitsStandAlone =
     (octet k j : ℕ) (on : Bool) → octet < 256 → k < 8 → j < 8
     → bit_of (with_bit octet k on) j ≡ (if j == k then (if on then 1 else 0) else bit_of octet j)
 
--- octets that were written with code FF are read for the same item with the same right, unless it is a bit
+-- a read of the same item, with the same right, gives the octets that a write with code FF wrote, unless the item is a
+-- bit
 abbrev pub WrittenIsRead : Type 0
 WrittenIsRead =
     (m : Memory) (right : Bool) (item : Item) (octets : List ℕ)
@@ -41,8 +42,8 @@ pub record IsFaultless (m : Memory) (key : AreaKey) (len : ℕ) : Type 0 where
   pub absent : area_octets m key ≡ None
   pub few : is_db_too_many m key ≡ false
 
--- names have a total order; an area that is added adds its octets to the total; and what it means that an area has
--- no fault
+-- names have a total order; an area that is added adds its octets to the total; and an area without a fault is as
+-- `IsFaultless` states
 pub record AreasJoin : Type 0 where
   pub ordered : IsTotalOrder key_cmp
   pub total :

@@ -56,7 +56,7 @@ pub record IsMemory (m : Memory) : Type 0 where
 abbrev pub Keeps : Memory → ℕ → Type 0
 Keeps m total = IsMemory m × (total ≡ total_of m)
 
--- no area of this name and this length may be added to the others
+-- an area of this name can't have this length, or the areas would have too many octets with it
 abbrev pub is_wrong_size : Memory → AreaKey → ℕ → Bool
 is_wrong_size m key len =
     len == 0 || nat_lt most_octets len || (is_numbered key.area && not (len % 2 == 0))

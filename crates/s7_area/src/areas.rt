@@ -322,7 +322,7 @@ impl Areas {
         }
     }
 
-    /// Whether no area of this name and this length may be added to the others.
+    /// Whether an area of this name can't have this length, or the areas would have too many octets with it.
     fn is_wrong_size(&self, key: AreaKey, len: usize) -> bool
         ensures { result ≡ is_wrong_size self.now key len }
     {

@@ -4,8 +4,8 @@ use Rattle.s7_args.specs.CommandLine.{Text, Field, CommandLine, Given, given_by}
 use Rattle.s7_args.specs.Fields.{operand, port, journal, text_or, number_or}
 use Rattle.s7_args.specs.Tool.{host, polls}
 
--- which windows are served, on the areas of which controller, with how many polls a job, and how many telegrams are
--- kept at most
+-- the arguments of the relay: the windows file, the host and the port of the controller, the number of polls after
+-- which a question times out, and how many telegrams are kept at most
 pub record RelayTold : Type 0 where
   pub windows : Text
   pub host : Text

@@ -6,8 +6,8 @@ use Rattle.std.specs.Str.{bytes_eq}
 use Rattle.s7_args.specs.CommandLine.{Text, Field, CommandLine, Given, given_by, is_number, number_of, value_of, values_of}
 use Rattle.s7_args.specs.Fields.{operand, operands, optional, numeral, text, number, areas, port, journal, text_or, number_given, number_or}
 
--- how a script is run: against which controller, over which connection, with how many polls and parallel jobs, and
--- with the tags of which file
+-- the arguments of `run`: the script, the host and the port of the controller, the kind of the connection with rack,
+-- slot and PDU, the number of polls after which a job times out, the number of parallel jobs, and the tag file
 pub record RunTold : Type 0 where
   pub script : Text
   pub host : Text
@@ -20,9 +20,9 @@ pub record RunTold : Type 0 where
   pub jobs : ℕ
   pub tags : Option Text
 
--- how scripts are run together: on which areas, in which turns, over which connections, with how
--- large a journal and how many parallel jobs, and with the tags of which file; and the tags of which file are watched, in
--- how many rounds
+-- the arguments of `rig`: the areas, the scripts, the stated turns, the seed and the number of seeded turns, the PDU,
+-- the limit of the journal, the number of parallel jobs, the tag file that scripts may use, the tag file that is
+-- watched, and the number of rounds
 pub record RigTold : Type 0 where
   pub areas : Text
   pub scripts : List Text

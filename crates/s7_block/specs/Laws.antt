@@ -37,7 +37,7 @@ rooms_for id [] = []
 rooms_for id (a ∷ asks) = if id == a.0 then a.1 ∷ rooms_for id asks else rooms_for id asks
 
 -- Slices are the pieces of the image for the rooms asked for. Pieces join to as many octets as their rooms have
--- together, so to the image if the rooms suffice; the last piece is marked as the last exactly then.
+-- together, and so to the whole image if the rooms suffice; the last piece is marked as the last exactly then.
 pub record SlicesJoin : Type 0 where
   pub given :
       (id room : ℕ) (image : List ℕ) (asks : List (ℕ × ℕ))

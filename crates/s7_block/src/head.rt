@@ -14,7 +14,7 @@ const MOST_OCTETS: usize = 65_536;
 /// The octet with which each head begins, twice.
 const MARK: u8 = 0x70;
 
-/// The body length that is written for every greater one.
+/// The greatest body length that is written; it is written for each greater one, too.
 const MOST_BODY: u32 = 65_535;
 
 /// Whether the image has 36 to 65,536 octets and its head is that of this block: it begins `70 70`, its type and

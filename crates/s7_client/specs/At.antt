@@ -97,7 +97,7 @@ budget stage fragments held = messages_left stage * octets_of_message - (fragmen
 abbrev pub most_unput : ℕ
 most_unput = 8 * most_packets
 
--- what the confirm or a message leaves, whatever the course is
+-- the effect of the confirm or of a message on what the client holds, whatever the course is
 pub record Settles (config : Config) (t : Talk) (u : UnderWay) (t' : Talk) (u' : UnderWay) : Type 0 where
   pub reader : t'.reader ≡ t.reader
   pub none : t'.outbox.unsent ≡ []
@@ -128,7 +128,7 @@ code_at s TooLong = message_too_long
 
 -- ---- what is queued
 
--- Telegrams were queued behind those that were queued before, or none was. What is still to be sent stays the same.
+-- Telegrams were queued after those that were queued before, or none was. What is still to be sent stays the same.
 pub record Queues (config : Config) (t : Talk) (r : Running) (t' : Talk) (r' : Running) : Type 0 where
   pub pending : pending config t' r' ≡ pending config t r
   pub reader : t'.reader ≡ t.reader

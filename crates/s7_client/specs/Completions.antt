@@ -44,15 +44,15 @@ op_of (job.DbGet number) = 23
 op_of (job.DbFill number value) = 24
 op_of job.Disconnect = 25
 
--- after the notification of a result
+-- the notifications, with that of this result added
 abbrev pub told_of_result : Told → JobResult → Told
 told_of_result t result = told_one t (op_of result.job) result.code
 
--- after the notifications of these results, in order
+-- the notifications, with those of these results added, in order
 abbrev pub told_of_results : Told → List JobResult → Told
 told_of_results t results = fold told_of_result t results
 
--- after a poll: there is one more notification if the job is done
+-- the notifications after a poll, one more if the job is done
 abbrev pub told_by : Polled → Told → Told
 told_by (polled.Done result) t = told_of_result t result
 told_by polled.Pending t = t

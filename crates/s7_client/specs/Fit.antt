@@ -21,7 +21,8 @@ pub record TelegramsFit : Type 0 where
   pub few : (origin : Origin) (granted : Grant) (b : List ℕ) → origin.granted ≡ Some granted
       → open_count (course origin b).rows ≤ max 1 granted.jobs
 
--- no further question is asked: as many are unanswered as may be, or an answer refuses, or no question is left
+-- no further question is asked: the greatest number that is allowed is unanswered, or an answer refuses, or no question
+-- is left
 abbrev pub IsNoneAsked : Conduct → List Row → Type 0
 IsNoneAsked c rows =
     (c.width ≤ open_count rows) ⊎ (first_refusal c.refusal 0 (answers_of rows) ≢ None)

@@ -33,8 +33,9 @@ received_in (transmits octets ∷ deeds) = received_in deeds
 received_in (uses octets ∷ deeds) = received_in deeds
 received_in (receives octets ∷ deeds) = octets ++ received_in deeds
 
--- A job that used b and transmitted w did these deeds, while it kept octets unused. It used octets only if all that
--- might be sent was sent. It received octets only if also none was unused and octets were awaited.
+-- A job that had used `b` and transmitted `w` did these deeds; before them it had received the octets `kept` and not
+-- used them. It used octets only if all that might be sent was sent. It received octets only if, besides, no received
+-- octet was unused and octets were awaited.
 abbrev pub AreInOrder : Origin → List ℕ → List ℕ → List ℕ → List Deed → Type 0
 AreInOrder origin kept b w [] = Unit {0}
 AreInOrder origin kept b w (transmits octets ∷ deeds) =

@@ -97,14 +97,14 @@ pub record IsStarted (old new : Connection) (job : Job) : Type 0 where
 
 -- ---- polling
 
--- what is granted after an end
+-- what is granted after a job that ended in this way
 abbrev pub grant_after : Leaves → Option Grant → Option Grant
 grant_after leaving.AsItWas granted = granted
 grant_after (leaving.Connected now) granted = Some now
 grant_after leaving.Disconnected granted = None
 grant_after leaving.Closed granted = None
 
--- whether the client is closed after an end
+-- whether the client is closed after a job that ended in this way
 abbrev pub closed_after : Leaves → Bool → Bool
 closed_after leaving.AsItWas closed = closed
 closed_after (leaving.Connected now) closed = false
@@ -157,7 +157,8 @@ pub record Pends (old new : Connection) (link link' : Shown) : Type 0 where
   pub granted : grant_of new ≡ grant_of old
   pub closed : closed_of new ≡ closed_of old
 
--- what a poll amounts to, by the octets that it used and transmitted
+-- the effect of a poll by its result: the job is done, it goes on, or there was none. `used` and `written` are the
+-- octets that the poll used and transmitted
 abbrev pub Comes : Connection → Shown → Connection → Shown → List ℕ → List ℕ → Polled → Type 0
 Comes old link new link' used written (polled.Done result) =
     (IsSome (job_of old)) × (job_of new ≡ None)

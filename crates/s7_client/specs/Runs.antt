@@ -88,7 +88,7 @@ pub record JobRun (config : Config) (before : Between) (asked : Job) (link link'
   pub size : after.size ≡ (course (origin_from config before asked) moves.used).size
   pub sequence : after.sequence ≡ (course (origin_from config before asked) moves.used).sequence
 
--- ---- the parts of it
+-- ---- the parts of such a run
 
 -- polls after which the job is still outstanding
 pub record StillWaits (old : Connection) (link : Shown) (c : Connection) (link' : Shown) : Type 0 where

@@ -163,8 +163,8 @@ pub record Moves (kept : List ℕ) (link : Shown) (kept' : List ℕ) (link' : Sh
   pub shut : link'.shut ≡ link.shut
   pub space : link'.space ≡ option_map (λ space. space - length written) link.space
 
--- What the steps moved consists of deeds in order, for a job that had used b and transmitted w, and kept octets
--- unused.
+-- What the steps moved consists of deeds in order. Before them the job had used `b`, transmitted `w`, and received the
+-- octets `kept` without using them.
 pub record IsOrderly (origin : Origin) (kept b w : List ℕ) {link : Shown} {kept' : List ℕ} {link' : Shown}
     (moves : Moves kept link kept' link') : Type 0 where
   pub deeds : List Deed
@@ -208,7 +208,7 @@ CountsStep step.Went r link link' = MetNothing link link'
 CountsStep step.NotYet r link link' = MetNotYetOnce link link'
 CountsStep step.Over r link link' = (link'.waits ≡ link.waits) × EndsAsTold r link link'
 
--- what one step amounts to
+-- the effect of one step
 pub record IsStep (l : Channel) (u : UnderWay) (link : Shown) (l' : Channel) (u' : UnderWay) (link' : Shown)
     (config : Config) (granted : Option Grant) (result : Step) : Type 0 where
   pub moves : Moves (unread l) link (unread l') link'

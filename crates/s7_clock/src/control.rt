@@ -59,7 +59,7 @@ const DELETE: [u8; 26] = *b"\x28\0\0\0\0\0\0\xFD\0\x0A\x01\x000\0\0\0\0\0\0B\x05
 /// The length of the parameters of an insert or a delete.
 const BLOCK_LEN: usize = 26;
 
-/// The offset of the kind in them. The five digits of the number follow it.
+/// The offset of the kind in these parameters. The five digits of the number follow it.
 const KIND: usize = 13;
 
 /// Reads the parameters of a control. Returns `BadParams` if the octets are none of the seven controls, for another

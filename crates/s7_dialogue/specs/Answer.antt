@@ -36,7 +36,7 @@ pub record ItemAnswer : Type 0 where
   pub octets : List ℕ
 
 pub data Answer : Type 0 where
-  -- the negotiation was granted so
+  -- the negotiation was granted, with these values
   grants : (granted : Negotiation) → Answer
   -- the return codes and octets of the items of a read
   tells : (items : List ItemAnswer) → Answer
@@ -97,7 +97,8 @@ abbrev pub counts_items : ℕ → List Item → List ℕ → Bool
 counts_items function items params =
     length params == 2 && (slice_index params 0 == function && slice_index params 1 == length items)
 
--- the answer of a grant (Snap7 1.4 sources, s7_types.h: TReqFunNegotiateParams)
+-- the answer to a negotiation by its parameters, if they can be read (Snap7 1.4 sources, s7_types.h:
+-- TReqFunNegotiateParams)
 abbrev pub grant_in : Result Negotiation BadParams → Option Answer
 grant_in (Ok granted) = Some (grants granted)
 grant_in (Err bad) = None
@@ -160,7 +161,7 @@ abbrev pub if_data : Subject → List ℕ → UserParams → Option (List ℕ) �
 if_data subject so_far params None = None
 if_data subject so_far params (Some octets) = brought subject so_far params octets
 
--- the answer has the sequence octet that is expected, if one is
+-- the octet is the sequence octet that is expected, or none is expected
 abbrev pub is_under : Option ℕ → ℕ → Bool
 is_under None octet = true
 is_under (Some asked) octet = octet == asked

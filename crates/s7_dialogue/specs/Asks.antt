@@ -165,7 +165,7 @@ abbrev pub refused_at : Option Refused → Option (ℕ × ℕ)
 refused_at None = None
 refused_at (Some refused) = Some (refused.place, refused.number)
 
--- the refusal whose question comes first, of an earlier one and this one
+-- the one of two refusals, an earlier one and this one, whose question comes first
 abbrev pub earlier : Option (ℕ × ℕ) → ℕ → ℕ → Option (ℕ × ℕ)
 earlier None place number = Some (place, number)
 earlier (Some before) place number = if nat_lt place before.0 then Some (place, number) else Some before

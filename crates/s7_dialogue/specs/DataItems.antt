@@ -7,7 +7,7 @@ use Rattle.s7_dialogue.specs.declared.answers.data_items.First.{First as Taken}
 use Rattle.s7_dialogue.specs.declared.answers.data_items.ItemAnswer.{ItemAnswer as Kept}
 use Rattle.s7_dialogue.specs.Answer.{ItemAnswer, begins_read, begins_refused}
 
--- an answer for an item, as the code's value gives it, and answers for several items
+-- the answer for an item that a value of the code represents, and the answers for several items
 abbrev pub answer_in : Kept → ItemAnswer
 answer_in kept = record { code = kept.code; octets = kept.octets.now }
 
@@ -31,6 +31,6 @@ first_of item last octets =
     then Some (record { answer = record { code = slice_index octets 0; octets = [] }; rest = drop 4 octets })
     else None)
 
--- the first data item, as the code's value gives it
+-- the first data item that a value of the code represents
 abbrev pub first_told : Taken → First
 first_told taken = record { answer = answer_in taken.answer; rest = taken.rest.now }

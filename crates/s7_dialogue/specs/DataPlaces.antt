@@ -1,4 +1,4 @@
--- How far a job is that reads or fills a whole data block, and what it still has to ask.
+-- The progress of a job that reads or fills a whole data block, and what the job still has to ask.
 use Rattle.std.specs.Prelude.{ℕ, ◌+◌, ◌-◌, ◌/◌, min, Bool, ◌==◌, ◌&&◌, not, nat_lt, nat_le, if◌then◌else◌, List, [], ◌∷◌, ◌++◌, replicate, Option, None, Some, is_some}
 use Rattle.std.specs.List.{flat_map}
 use Rattle.s7_header.specs.Negotiation.{least_pdu, most_pdu}
@@ -80,7 +80,7 @@ question_for (Some value) item = writes (item ∷ []) (replicate item.count valu
 abbrev pub part_question : DataBlock → Place → Question
 part_question block place = question_for block.value (part_at block place)
 
--- the reads of parts, or the writes of a value to their octets, `size` in all
+-- the reads of parts, or the writes of a value to all octets of parts, which have `size` octets in all
 abbrev pub questions_for : Option ℕ → List Item → ℕ → List Question
 questions_for None parts size = read_questions (alone parts)
 questions_for (Some value) parts size = write_questions (alone parts) (replicate size value)
@@ -105,7 +105,7 @@ abbrev pub number_for : Option ℕ → List (Option Answer) → ℕ → ℕ → 
 number_for None answers = plain_number
 number_for (Some value) answers = fill_number answers
 
--- how a job asks that reads or fills the data block
+-- how a job that reads or fills the data block asks its questions
 abbrev pub block_conduct : DataBlock → Conduct
 block_conduct block = record {
   width = 1;
@@ -116,8 +116,8 @@ block_conduct block = record {
       (good_end (told_for block.value answers) []);
 }
 
--- the error number with which the refusal of the part at a place ends the job; in a write it is another one after
--- the first part
+-- the error number with which a refusal of the part at a place ends the job; in a write it depends on whether the part
+-- is the first
 abbrev pub refused_number : DataBlock → Place → ℕ → ℕ
 refused_number block place number = if is_some block.value && not (place.from == 0) then partly_written else number
 

@@ -97,7 +97,7 @@ abbrev pub by_grant : Option Grant → End
 by_grant None = number_end negotiation_failed Closed
 by_grant (Some granted) = number_end no_fault (Connected granted)
 
--- the end by the answer to the negotiation
+-- the end of a connect, by the answer to its negotiation
 abbrev pub negotiated_by : Config → Answer → End
 negotiated_by config (grants n) = by_grant (taken_grant config n)
 negotiated_by config (refuses error) = number_end negotiation_failed Closed
@@ -147,7 +147,7 @@ write_questions [] octets = []
 write_questions (group ∷ groups) octets =
     writes group (take (octet_count_of group) octets) ∷ write_questions groups (drop (octet_count_of group) octets)
 
--- the refusal with this index, or else the later one
+-- the refusal with this index and number, if there is a number; otherwise the refusal that comes later
 abbrev pub first_or : Option ℕ → ℕ → Option (ℕ × ℕ) → Option (ℕ × ℕ)
 first_or None place later = later
 first_or (Some number) place later = Some (place, number)
@@ -295,7 +295,7 @@ next_piece subject octets [] = Some (asks subject octets)
 next_piece subject octets (answer ∷ answers) =
     behind subject (octets_brought (answer ∷ answers)) (last_answer answer answers)
 
--- the end of such a job: its result is what was asked for, out of the octets of the answers
+-- the end of such a job: it has the octets of the answers, without those that come before what was asked for
 abbrev pub brought_end : Subject → List (Option Answer) → End
 brought_end subject answers = good_end (drop (lead_of subject) (octets_brought answers)) []
 
@@ -401,7 +401,8 @@ downloading image room = record {
 
 -- ---- whole data blocks (Snap7 1.4 reference manual, `Cli_DBGet`, `Cli_DBFill`)
 
--- whether an answer is one to a part, and not one with the head, which is user data; and the number of such answers
+-- whether an answer is to a part of the data block, since the answers about the head are user data; and the number of
+-- such answers
 abbrev pub is_of_data : Option Answer → Bool
 is_of_data (Some (brings octet more octets)) = false
 is_of_data (Some (grants granted)) = true

@@ -20,7 +20,7 @@ unfoldable pub open_count : List Row → ℕ
 open_count [] = 0
 open_count (row ∷ rows) = (if is_none row.answer then 1 else 0) + open_count rows
 
--- the answer of the message to the telegram, if this is unanswered
+-- the answer that the message gives to the telegram; `None` if the telegram was answered before
 abbrev pub answer_to : Row → List ℕ → Option Answer
 answer_to row message = if is_none row.answer then answer_of row.question row.number message else None
 

@@ -32,7 +32,7 @@ use Rattle.s7_dialogue.specs.Stages.{unput_by, conduct_of_single, question_of_si
 use Rattle.s7_dialogue.specs.declared.stages.asking.Refused.{Refused}
 use Rattle.s7_dialogue.specs.Asks.{Asks, items_of, refused_at}
 
--- the refusal in an answer, by whether each telegram asks for one item
+-- the refusal in an answer: in a job whose telegrams ask for one item each, a refused item refuses its telegram too
 abbrev pub refusal_by : Bool → Answer → Option ℕ
 refusal_by alone answer = if alone then part_refusal answer else telegram_refusal answer
 
@@ -90,7 +90,7 @@ conducted config job width groups = record {
 abbrev pub AreAlone : List (List Item) → Type 0
 AreAlone groups = AllByRecursion (λ (group : List Item). length group ≡ 1) groups
 
--- the groups of a read of one item have one item each; the groups of a read of several are these items
+-- the groups of a read of one item have one item each; the groups of a read of several items are together these items
 abbrev pub AreGroupsOf : Job → List (List Item) → Type 0
 AreGroupsOf (job.ReadArea item) groups = AreAlone groups
 AreGroupsOf (job.ReadMany items) groups = joined groups ≡ items
@@ -98,7 +98,7 @@ AreGroupsOf _ groups = Unit {0}
 
 -- ---- what was read so far
 
--- n numbers: these, and then 00
+-- these numbers, filled up with 00 to n numbers, or the first n of them
 abbrev pub filled_up : ℕ → List ℕ → List ℕ
 filled_up n numbers = take n (numbers ++ replicate n 0)
 
@@ -182,8 +182,8 @@ IsUnanswered row = row.answer ≡ None
 
 -- ---- jobs that go on
 
--- The job asks as its conduct states, these telegrams were sent, and the code keeps of these answers which of them
--- refuses first, and what was read.
+-- The job asks as its conduct states, and these telegrams were sent. Of their answers the code keeps which one refuses
+-- first, and what was read.
 pub record Conducts (config : Config) (granted : Option Grant) (rows told : List Row) (job : Job)
     (found codes : List ℕ) (a : Asking) : Type 0 where
   pub groups : List (List Item)
@@ -245,12 +245,13 @@ pub record AsksSingly (config : Config) (granted : Option Grant) (rows : List Ro
   pub counted : is_counted s.ask (count_of_data (answers_of before)) ≡ true
   pub no_codes : codes ≡ []
 
--- The job goes on so with this question, after `len` octets of its answer came.
+-- A job that asks one question at a time goes on with this question, after `len` octets of its answer came.
 abbrev pub IsNextOf : Config → Option Grant → List Row → Job → List ℕ → List ℕ → Ask → ℕ → Type 0
 IsNextOf config granted rows job found codes asked len =
     (s : Single) → s.ask ≡ asked → s.out ≡ None → s.len ≡ len → AsksSingly config granted rows job found codes s
 
--- All that the job asked since then was sent, under sequences up to this last one, and the job goes on.
+-- The job was at the position `course`, and goes on at the position `now`. `last` is the last sequence, and what may be
+-- sent since then isn't queued yet.
 pub record HasAsked (config : Config) (granted : Option Grant) (job : Job) (found codes : List ℕ) (a : Asking)
     (course now : Course) (a' : Asking) (last : ℕ) : Type 0 where
   pub conducts : Conducts config granted now.rows now.rows job found codes a'
@@ -280,8 +281,8 @@ IsDone (stage.Over code leaves) refused = ⊥
 abbrev pub GoesOn : Running → Config → Option Grant → List Row → Type 0
 GoesOn r config granted rows = ConductsAt config granted rows rows r.job r.found.items r.codes r.stage
 
--- This is what the message says of the answer to the one telegram in flight: of the answer to its question, after
--- `came` octets.
+-- `told` is what the message says of the answer to the one telegram in flight, whose question is `asked`, after `came`
+-- octets of this answer.
 pub record IsToldTo (r : Running) (asked : Ask) (came : ℕ) (message : List ℕ) (told : Told) : Type 0 where
   pub single : Single
   pub stage : r.stage ≡ stage.Single single

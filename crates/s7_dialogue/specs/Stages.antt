@@ -52,7 +52,7 @@ is_alone (job.ReadArea item) = true
 is_alone (job.WriteArea item octets) = true
 is_alone _ = false
 
--- the question, with its octets from an offset on in a write
+-- the question; in a write its octets begin at this offset
 abbrev pub question_of : Config → Job → ℕ → Asked → Question
 question_of config job from asked.Negotiation = negotiates (asked_by config)
 question_of config job from (asked.Read items) = reads items
@@ -85,7 +85,7 @@ abbrev pub image_of : Job → List ℕ
 image_of (job.Download image) = image
 image_of _ = []
 
--- the question, after the octets so far
+-- the question for which the code keeps this value, after the octets so far
 abbrev pub question_of_single : Job → Ask → List ℕ → Question
 question_of_single job (ask.Control control) so_far = controls control
 question_of_single job (ask.About subject) so_far = asks subject (data_of_job job)
@@ -101,7 +101,7 @@ question_of_single job (ask.Head block) so_far = asks DataHead (block_octets 0x4
 question_of_single job (ask.HeadFurther block octet) so_far = asks_further DataHead octet so_far
 question_of_single job (ask.Part block place) so_far = part_question block place
 
--- the conduct of the job that asks it
+-- the conduct of a job that asks this question
 abbrev pub conduct_of_single : Job → Ask → Conduct
 conduct_of_single job (ask.Control control) = controlling control
 conduct_of_single job (ask.About subject) = asking_about subject (data_of_job job)
@@ -209,7 +209,7 @@ can_ask_all job found from (left.Writes grouped) =
 abbrev pub can_fly : Job → ℕ → Flight → Bool
 can_fly job found flight = nat_le flight.item most_parts && can_ask job found flight.from flight.asked
 
--- there is a place for each octet that a read of several items gives
+-- there is room for each octet that a read of several items gives
 abbrev pub has_places : Job → ℕ → Bool
 has_places (job.ReadMany items) found = nat_le (octet_count_of items) found
 has_places _ found = true

@@ -46,19 +46,21 @@ rows_with front row back answer = front ++ record row { answer = Some answer } �
 
 -- ---- what is kept of an answer
 
--- the codes with these in their place from an index on, as far as there are codes
+-- the codes, with these in place of those from an index on; the number of codes stays
 abbrev pub with_codes : ℕ → List ℕ → List ℕ → List ℕ
 with_codes place [] codes = codes
 with_codes place (code ∷ noted) codes = with_codes (place + 1) noted (slice_set codes place code)
 
--- the octets with those of the items that were read at their offsets, from an offset on
+-- the octets found so far, over which the octets of items that were read are written at the items' offsets; the first
+-- item has offset `from`
 abbrev pub with_octets : ℕ → List Item → List spelled.ItemAnswer → List ℕ → List ℕ
 with_octets from [] answers found = found
 with_octets from (item ∷ items) [] found = found
 with_octets from (item ∷ items) (answer ∷ answers) found =
     with_octets (from + octet_count item) items answers (paste found from answer.octets (length answer.octets))
 
--- What an answer that doesn't refuse leaves of the octets and codes found so far, for a telegram of these items.
+-- The octets and codes that were found before an answer to a telegram of these items, and those after it. A refusal
+-- changes neither.
 abbrev pub Keeps : List Item → Flight → Answer → List ℕ → List ℕ → List ℕ → List ℕ → Type 0
 Keeps items flight (told.Refused error) found codes found' codes' = (found' ≡ found) × (codes' ≡ codes)
 Keeps items flight (told.Granted n) found codes found' codes' = (found' ≡ found) × (codes' ≡ codes)

@@ -17,7 +17,7 @@ write_function = 0x05
 abbrev pub good : ℕ
 good = 0xFF
 
--- the octet of a write request at the offset of a code (Snap7 1.4 sources, s7_types.h: TReqFunWriteDataItem)
+-- in a write request, the octet at the offset of a return code (Snap7 1.4 sources, s7_types.h: TReqFunWriteDataItem)
 abbrev pub requested : ℕ
 requested = 0x00
 

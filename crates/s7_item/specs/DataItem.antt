@@ -77,7 +77,7 @@ place_in at last octets =
 abbrev pub span_of : DataPlace → Bool → ℕ
 span_of place last = 4 + place.len + padding_of place.len last
 
--- a range before the others, or their refusal
+-- the other ranges with this one before them, or the refusal of the others
 abbrev pub with_place : DataPlace → Result (List DataPlace) DataFault → Result (List DataPlace) DataFault
 with_place place (Ok places) = Ok (place ∷ places)
 with_place place (Err fault) = Err fault

@@ -5,10 +5,10 @@ use Rattle.s7_outer.specs.Shown.{Shown}
 use Rattle.s7_turn.specs.Histories.{has}
 use Rattle.s7_listener.specs.Served.{ServedTold}
 
--- THE TERMS on which links are served, for whatever seats of a bench see of the history or the histories in which calls
--- are entered. The last three are the laws.
+-- THE TERMS on which links are served. `Seen` is what a seat of a bench sees: one history, or several, in which calls
+-- are entered. The last three fields are laws.
 pub record Terms (Seen : Type 0) : Type 1 where
-  -- what was seen goes on to what is seen later, by calls of other callers than these
+  -- what is seen later begins with what was seen before, and none of these callers has made a call since
   pub agrees : Seen → List ℕ → Seen → Type 0
   -- this caller has made no call
   pub silent : ℕ → Seen → Type 0

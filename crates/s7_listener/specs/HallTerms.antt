@@ -10,14 +10,15 @@ use Rattle.s7_listener.specs.Benches.{Terms}
 use Rattle.s7_listener.specs.Hosted.{IsServedAs}
 use Rattle.s7_listener.specs.Served.{ServedTold}
 
--- who makes none of the calls of some callers makes none of the calls of one of them
+-- if no call is of one of some callers, no call is of this one of them
 not_of : (callers : List ℕ) (number : ℕ) (later : History) → has callers number ≡ true → NoneBy callers later
     → NoneBy (number ∷ []) later
 not_of callers number later stands none =
     Each-weaker (λ e. has callers e.caller ≡ false) (λ e. has (number ∷ []) e.caller ≡ false) later
     (λ e not. has-not_one number e.caller (λ same. absurd (cc (stands, not, ap (has callers) same)))) none
 
--- what was seen without calls of one of some callers goes on without calls of that one
+-- if `later` adds to `seen` no call of a caller, and `last` adds to `later` no call of some callers, of which it is
+-- one, then `last` adds to `seen` no call of this caller
 pub agrees_on : (seen later last : History) (number : ℕ) (callers : List ℕ) → has callers number ≡ true
     → Agrees seen (number ∷ []) later → Agrees later callers last → Agrees seen (number ∷ []) last
 agrees_on seen later last number callers stands a b = (
@@ -26,7 +27,7 @@ agrees_on seen later last number callers stands a b = (
   Each-append (λ e. has (number ∷ []) e.caller ≡ false) a.0 b.0 a.2 (not_of callers number b.0 stands b.2),
 )
 
--- who made no call still made none
+-- a caller that had made no call still has made none
 pub silent_on : (seen later : History) (number : ℕ) (callers : List ℕ) → has callers number ≡ true
     → Agrees seen callers later → calls number seen ≡ [] → calls number later ≡ []
 silent_on seen later number callers stands a none = calls_same seen later callers number stands a ∙ none

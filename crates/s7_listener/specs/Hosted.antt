@@ -17,8 +17,8 @@ pub record IsServedAs (opening : State) (limit : ℕ) (first : LinkState) (histo
   pub is_served : IsServed opening limit first history pipe served
   pub count : served.entries ≡ length (own opening number history)
 
--- links that showed this when they came were served, each over the history, and numbered in their order from this
--- number
+-- Links that showed this when they came were served, each over the history. They have consecutive numbers, from this
+-- number on, in the order in which they came.
 abbrev pub AreServed : State → ℕ → LinkState → History → ℕ → List Shown → List ServedTold → Type 0
 AreServed opening limit first history number [] [] = Unit {0}
 AreServed opening limit first history number [] (served ∷ links) = ⊥

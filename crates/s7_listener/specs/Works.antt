@@ -39,7 +39,7 @@ pub record IsIn {Seen : Type 0} (terms : Terms Seen) (all : SeatTold Seen)
   pub agrees : terms.agrees seen (number ∷ []) all.seen
   pub served_as : terms.served seen number pipe served
 
--- it represents a number that made no call
+-- the seat represents a number that made no call
 pub record IsIdle {Seen : Type 0} (terms : Terms Seen) (all : SeatTold Seen) (number : ℕ) : Type 0 where
   pub stands : has all.callers number ≡ true
   pub silent : terms.silent number all.seen
@@ -71,16 +71,16 @@ WorksAre keeps gets shows terms all number (pipe ∷ pipes) [] = ⊥
 WorksAre keeps gets shows terms all number (pipe ∷ pipes) (w ∷ works) =
     WorkIs keeps gets shows terms all number pipe w × WorksAre keeps gets shows terms all (number + 1) pipes works
 
--- SERVING GOES ON: the links that came so far are being served or were, under the numbers from 1 on, and the seat's own
--- caller has made no call
+-- SERVING GOES ON: the links that came so far are being served or were served, under the numbers from 1 on, and the
+-- seat's own caller has made no call
 pub record IsUnderWay {H L Seen : Type 0} (keeps : H → Type 0) (gets : H → Handed Seen) (shows : L → Shown)
     (terms : Terms Seen) (all : SeatTold Seen) (pipes : List Shown) (works : List (Work H L)) : Type 0 where
   pub idle : IsIdle terms all 0
   pub few : terms.fits all.seen
   pub works_are : WorksAre keeps gets shows terms all 1 pipes works
 
--- THE DOOR GAVE THESE LINKS SO FAR and didn't fail. They are being served or were, and the seat hands out the next
--- number.
+-- THE DOOR GAVE THESE LINKS SO FAR and didn't fail. They are being served or were served, and the seat hands out the
+-- next number.
 pub record IsServing {H L Seen : Type 0} (keeps : H → Type 0) (gets : H → Handed Seen) (shows : L → Shown)
     (terms : Terms Seen) (port : ℕ) (before now : DoorShown L) (all : SeatTold Seen) (lines : List L)
     (works : List (Work H L)) : Type 0 where
@@ -118,7 +118,7 @@ IsAccepted keeps gets shows terms port most before now all lines works (Some why
     HasStopped keeps gets shows terms port before now all lines works
     × (length lines < most) × Stops port before now why
 
--- THE RESULTS OF THE FIRST LINKS WERE TAKEN; the other links are being served or were.
+-- THE RESULTS OF THE FIRST LINKS WERE TAKEN; the other links are being served or were served.
 pub record IsGathering {H L Seen : Type 0} (keeps : H → Type 0) (gets : H → Handed Seen) (shows : L → Shown)
     (terms : Terms Seen) (start all : SeatTold Seen) (pipes : List Shown) (works : List (Work H L))
     (links : List ServedTold) : Type 0 where

@@ -22,7 +22,8 @@ pub trait Bench {
 
     ghost told: { Self.Seat → SeatTold Seen };
 
-    // what it means that a link was served over what a seat sees, and that what is seen goes on
+    // what it means that a link was served over what a seat sees, and that what is seen later begins with what was seen
+    // before
     ghost terms: { Self → Terms Seen };
 
     /// Splits a new seat off this one. The new seat has the number that the old one hands out next.

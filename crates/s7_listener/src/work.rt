@@ -1,4 +1,4 @@
-//! Links that are being served, or were.
+//! Links that are being served, or were served.
 use crate::served::Served;
 
 /// A link that came: a thread serves it, or it was served.

@@ -55,7 +55,7 @@ pub fn serve_link<M: Keeper, R: Wait + time::Clock, L: Link + Clock, G: Gate>(
     (seat, shut(link, line, outcome, entries, last))
 }
 
-/// Shuts a link down that was served or for which there was no memory, and returns its result.
+/// Shuts down a link that was served, or for which an allocation failed, and returns its result.
 fn shut<L: Link + Clock>(
     link: u32,
     line: L,

@@ -3,12 +3,12 @@ use Rattle.std.specs.Prelude.{Bool, true, false, Option, None, Some}
 use Rattle.s7_outer.specs.Shown.{Moved, Shown}
 use Rattle.s7_os.specs.declared.real_link.RealLink.{RealLink}
 
--- how far the link had come when it was shut isn't visible
+-- whether the stream was shut, and nothing of how far the link had come then
 abbrev pub shut_as : Bool → Option Moved
 shut_as false = None
 shut_as true = Some (record { left = None; written = None })
 
--- over a runtime and its reader
+-- what a link over a runtime and its reader shows
 abbrev pub real_of : {R Reader : Type 0} → RealLink R Reader → Shown
 real_of s = record {
   left = None;

@@ -13,6 +13,6 @@ GivesTold (Some told) dialled.Failed = Unit {0}
 abbrev pub NoHostFell : (List ℕ → ℕ → ℕ) → (List ℕ → ℕ → ℕ) → Type 0
 NoHostFell old new = (host : List ℕ) (port : ℕ) → old host port ≤ new host port
 
--- and none rose by more than one
+-- no count of a host and a port rose by more than one
 abbrev pub NoHostRoseTwice : (List ℕ → ℕ → ℕ) → (List ℕ → ℕ → ℕ) → Type 0
 NoHostRoseTwice old new = (host : List ℕ) (port : ℕ) → new host port ≤ old host port + 1

@@ -17,6 +17,6 @@ KeepsOtherPaths path old new = (other : List ℕ) → other ≢ path → new oth
 abbrev pub NonePathFell : (List ℕ → ℕ) → (List ℕ → ℕ) → Type 0
 NonePathFell old new = (path : List ℕ) → old path ≤ new path
 
--- and none rose by more than one
+-- no count of a path rose by more than one
 abbrev pub NoPathRoseTwice : (List ℕ → ℕ) → (List ℕ → ℕ) → Type 0
 NoPathRoseTwice old new = (path : List ℕ) → new path ≤ old path + 1

@@ -6,7 +6,7 @@ use Rattle.std.specs.Borrow.{GName}
 pub record Lent : Type 0 where
   -- the loan, by the name that proofs use for it
   pub loan : GName
-  -- the number of the end that the link is
+  -- which end of the external object the link is, by its number
   pub end : ℕ
   -- the greatest number of octets in each direction
   pub room : ℕ

@@ -117,7 +117,7 @@ code_by step.NotYet = None
 code_by step.Sent = None
 code_by (step.Closed code) = Some code
 
--- What is reported of a message that was taken is what the partner then holds.
+-- The result of a step that took a message agrees with what the partner then holds.
 pub record Does (old new : Partner) (result : Step) : Type 0 where
   pub some : result ≢ step.NotYet
   pub closed : closed_of new ≡ code_by result

@@ -183,7 +183,7 @@ opened_by Passive config s c = record s {
 abbrev pub with_code : State → ℕ → State
 with_code s code = record s { stage = closed code }
 
--- the link was negotiated: a block that was given before is begun to be sent
+-- the state once the link was negotiated: the first fragment of a block that was given before is sent
 abbrev pub goes : State → ℕ → State
 goes s pdu = if_going (record s { stage = going pdu }) (going pdu)
 

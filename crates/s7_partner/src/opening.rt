@@ -331,7 +331,8 @@ impl Partner {
         self.set_out(granted.pdu)
     }
 
-    /// Goes over to exchanging fragments with this PDU. A block that was given before is begun to be sent.
+    /// Begins to exchange fragments with this PDU, and queues the first fragment of a block that was given before, if
+    /// there is one.
     fn set_out(&mut self, pdu: u16) -> Step
         requires negotiating { self.old.stage ≡ Negotiating }
         requires least { 64 ≤ pdu }

@@ -27,7 +27,7 @@ most_turns = 18446744073709551615
 abbrev pub has_sent_all : Post → Bool
 has_sent_all p = is_acknowledged p && not (is_closed p)
 
--- how the turns ended, when none is left to take
+-- how the turns ended, once no further turn is to be taken
 abbrev pub end_of : Post → TalkEnd
 end_of p = if has_sent_all p then end.Sent else end.Unsent
 
@@ -38,7 +38,8 @@ pub record Tells (most : ℕ) (old : Post) (link : Shown) (out : OutShown) (new 
   pub goes : Goes most old link new link' news
   pub text : out'.text ≡ append_known out.text (actives_text news)
 
--- fewer turns, after which it wasn't over, and one more turn that ended in this way
+-- the partner took some turns, fewer than the most, after which it wasn't over, and one more turn, which ended in this
+-- way
 pub record TellsThen (old : Post) (link : Shown) (out : OutShown) (new : Post) (link' : Shown) (out' : OutShown)
     (ends : OutShown → Result (Option News) Memory → Type 0) : Type 0 where
   pub made : ℕ
@@ -102,7 +103,8 @@ pub record EndsClosed (p : Post) (told : List News) : Type 0 where
   pub closed : closed_of p.partner ≡ Some code
   pub last : told ≡ front ++ news.Closed code ∷ []
 
--- ONE PARTNER over a link used octets that it took from the link, and transmitted these on it
+-- ONE PARTNER ran over a link: it took from the link the octets that it used, and what it transmitted was written on
+-- the link
 pub record IsSideOver (role : Role) (config : Config) (sends : List SendLine) (link link' : Shown) (news : List News)
     : Type 0 where
   pub side : IsSide role config (blocks_of sends) news

@@ -63,7 +63,7 @@ sent_in (n ∷ ns) = sent_by n + sent_in ns
 
 -- ---- two partners
 
--- the news of one of them
+-- the news of one of two partners
 abbrev pub events_of : Role → Option News → List PairEvent
 events_of role None = []
 events_of role (Some n) = record { role = role; news = n } ∷ []
@@ -74,7 +74,7 @@ is_same Active Passive = false
 is_same Passive Active = false
 is_same Passive Passive = true
 
--- THE NEWS OF ONE OF THEM, in order
+-- THE NEWS OF ONE OF TWO PARTNERS, in order
 abbrev pub told_by : Role → List PairEvent → List News
 told_by role [] = []
 told_by role (e ∷ es) = if is_same role e.role then e.news ∷ told_by role es else told_by role es

@@ -52,20 +52,20 @@ side_of Passive = side.Server
 
 -- ---- turns
 
--- a turn over an end of the pipes, by whichever borrow
+-- a turn over an end of the pipes, which the partner borrows
 pub record TurnsOver (side : Side) (post : Post) (pipes : PipesHeld) (post' : Post) (pipes' : PipesHeld)
     (result : Result (Option News) Memory) : Type 0 where
   pub loan : GName
   pub turn : IsTurn post (end_of loan pipes side) post' (end_of loan pipes' side) result
 
--- a turn of one of them, and its news: everything else stays
+-- one partner takes a turn, with this news; everything else stays
 pub record TakesTurn (role : Role) (old new : State) (news : Option News) : Type 0 where
   pub post : Post
   pub pipes : PipesHeld
   pub turn : TurnsOver (side_of role) (post_at role old) old.pipes post pipes (Ok news)
   pub same : new ≡ record (with_post role old post) { pipes = pipes }
 
--- A TURN of one of them, whose news is kept
+-- A TURN of one partner, whose news is appended to the news so far
 pub record TurnsOnce (role : Role) (old new : State) : Type 0 where
   pub middle : State
   pub news : Option News
@@ -82,11 +82,11 @@ role_by actor = if actor == 0 then Active else Passive
 
 -- ---- rounds
 
--- both are done
+-- both partners are done
 abbrev pub are_done : State → Bool
 are_done s = is_done s.active && is_done s.passive
 
--- both are done, or one is closed
+-- both partners are done, or one is closed
 abbrev pub is_over : State → Bool
 is_over s = is_closed s.active || (is_closed s.passive || are_done s)
 
@@ -125,8 +125,8 @@ end_told e = record { events = e.events.items; is_done = e.is_done }
 abbrev pub state_told : State → EndTold
 state_told s = record { events = s.events; is_done = are_done s }
 
--- what one of them was given to send, as the other received it: a prefix of it came, at least as many blocks as were
--- reported as sent; and if both are done all of it, each block once
+-- The receiver got a prefix of what the sender was given to send, with at least as many blocks as were reported as
+-- sent. If both partners are done, it got all of these blocks, and each was reported as sent.
 pub record IsDelivered (sends : List SendLine) (end : EndTold) (sender receiver : Role) : Type 0 where
   pub front : Delivered (blocks_of sends) (received_in (told_by receiver end.events))
   pub sent : sent_in (told_by sender end.events) ≤ length (received_in (told_by receiver end.events))

@@ -67,7 +67,7 @@ pub record GivesNone (old new : Post) : Type 0 where
   pub none : (is_sending old ≡ true) ⊎ (old.rest ≡ [])
   pub same : new ≡ old
 
--- it polls once
+-- the partner polls once
 pub record PollsOnce (old : Post) (link : Shown) (new : Post) (link' : Shown) (result : Result (Option News) Memory)
     : Type 0 where
   pub partner : Partner
@@ -76,7 +76,7 @@ pub record PollsOnce (old : Post) (link : Shown) (new : Post) (link' : Shown) (r
   pub same : new ≡ record old { partner = partner; is_idle = is_idle_by told }
   pub news : result ≡ news_by told
 
--- unless it is closed, its next block is given if none is unacknowledged, and it polls once
+-- A partner that isn't closed is given its next block if none is unacknowledged, and polls once.
 pub record Talks (old : Post) (link : Shown) (new : Post) (link' : Shown) (result : Result (Option News) Memory)
     : Type 0 where
   pub opened : is_closed old ≡ false
@@ -97,11 +97,12 @@ IsTurn old link new link' result = Talks old link new link' result ⊎ IsStill o
 
 -- ---- turns one after another
 
--- all of its blocks are acknowledged, or it is closed
+-- all blocks of the partner are acknowledged, or it is closed
 abbrev pub is_over : Post → Bool
 is_over p = is_closed p || is_acknowledged p
 
--- TURNS over a link, at most this number, which end when it is over, and the news in them
+-- TURNS of a partner over a link, at most this number, with the news in them. They end when all its blocks are
+-- acknowledged or it is closed.
 unfoldable pub Goes : ℕ → Post → Shown → Post → Shown → List News → Type 0
 Goes zero old link new link' news = (new ≡ old) × (link' ≡ link) × (news ≡ [])
 Goes (suc more) old link new link' news =

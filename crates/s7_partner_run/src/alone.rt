@@ -49,7 +49,7 @@ pub fn talk<L: Link, O: Out>(
     end_of(talker)
 }
 
-/// How the turns ended, when none is left to take.
+/// How the turns ended, once no further turn is to be taken.
 fn end_of(talker: &Talker) -> TalkEnd
     ensures { result ≡ end_of (post_of talker.now) }
 {

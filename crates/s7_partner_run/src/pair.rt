@@ -38,9 +38,9 @@ pub(crate) struct Pair {
 /// The result of a run of two partners.
 #[derive(Drop)]
 pub struct PairEnd {
-    /// The news of both, in order.
+    /// The news of both partners, in order.
     pub events: Vec<PairEvent>,
-    /// Whether every block of both was acknowledged, and nothing was outstanding.
+    /// Whether every block of both partners was acknowledged, and nothing was outstanding.
     pub is_done: bool,
 }
 
@@ -65,9 +65,9 @@ impl Pair {
         })
     }
 
-    /// Takes `steps` turns that are drawn from the seed, and then rounds of both. The rounds end when both are done or
-    /// one is closed, or after 16,777,216 rounds. Returns `Memory` if an allocation for a block or for a piece of news
-    /// fails.
+    /// Takes `steps` turns that are drawn from the seed, and then rounds of both partners. The rounds end when both are
+    /// done or one is closed, or after 16,777,216 rounds. Returns `Memory` if an allocation for a block or for a piece
+    /// of news fails.
     pub fn run(&mut self, alloc: Global, seed: u32, steps: u32) -> Result<(), Memory>
         ensures { OnOk result (IsRun seed steps (state_of self.old) (state_of self.new)) }
     {
@@ -87,7 +87,7 @@ impl Pair {
         Ok(())
     }
 
-    /// Takes rounds until both are done or one is closed.
+    /// Takes rounds until both partners are done or one is closed.
     fn take_rounds(&mut self, alloc: Global) -> Result<(), Memory>
         ensures { OnOk result (Rounds 16777216 (state_of self.old) (state_of self.new)) }
     {
@@ -100,7 +100,7 @@ impl Pair {
         Ok(())
     }
 
-    /// Takes a turn of each.
+    /// Takes a turn of each partner.
     fn round(&mut self, alloc: Global) -> Result<(), Memory>
         ensures { OnOk result (Turns (Active ∷ Passive ∷ []) (state_of self.old) (state_of self.new)) }
     {
@@ -108,7 +108,7 @@ impl Pair {
         self.turn(alloc, Role::Passive)
     }
 
-    /// Takes a turn of one of them, and keeps its news.
+    /// Takes a turn of one partner, and appends its news.
     fn turn(&mut self, alloc: Global, role: Role) -> Result<(), Memory>
         ensures { OnOk result (TurnsOnce role (state_of self.old) (state_of self.new)) }
     {
@@ -118,7 +118,7 @@ impl Pair {
         }
     }
 
-    /// Takes a turn of one of them, and returns its news.
+    /// Takes a turn of one partner, and returns its news.
     fn take_turn(&mut self, alloc: Global, role: Role) -> Result<Option<News>, Memory>
         ensures { IfOk result (λ news. TakesTurn role (state_of self.old) (state_of self.new) news) }
     {
@@ -128,7 +128,7 @@ impl Pair {
         }
     }
 
-    /// Keeps a piece of news of one of them.
+    /// Appends a piece of news of one partner.
     fn keep(&mut self, event: PairEvent) -> Result<(), Memory>
         ensures { OnOk result (state_of self.new ≡ record (state_of self.old) {
           events = self.old.events.items ++ event ∷ [];
@@ -140,14 +140,14 @@ impl Pair {
         Ok(())
     }
 
-    /// Whether both are done, or one is closed.
+    /// Whether both partners are done, or one is closed.
     fn is_over(&self) -> bool
         ensures { result ≡ is_over (state_of self.now) }
     {
         self.active.is_closed() || self.passive.is_closed() || self.are_done()
     }
 
-    /// Whether both are done.
+    /// Whether both partners are done.
     fn are_done(&self) -> bool
         ensures { result ≡ are_done (state_of self.now) }
     {

@@ -12,8 +12,8 @@ use std::alloc::Global;
 /// Runs an active and a passive partner over two pipes of 4,096 octets each. They are given the blocks of `one` and of
 /// `other`. In each turn, a partner that isn't closed is given its next block if none is unacknowledged, and polls
 /// once. First come `steps` turns that are drawn from the seed; actor 0 is the active partner and actor 1 the passive
-/// one. Then come rounds of both. The rounds end when every block was acknowledged and nothing is outstanding, when one
-/// of the partners is closed, or after 16,777,216 rounds. Returns `Memory` if an allocation fails.
+/// one. Then come rounds of both partners. The rounds end when every block was acknowledged and nothing is outstanding,
+/// when one of the partners is closed, or after 16,777,216 rounds. Returns `Memory` if an allocation fails.
 pub fn run_pair(
     alloc: Global,
     config: Config,

@@ -38,7 +38,7 @@ pub calls_lead : CallsLeadTheSame
 calls_lead s [] = refl
 calls_lead s (x ∷ xs) = calls_lead (after s x.ask) xs
 
--- ---- a history as a machine's
+-- ---- a history, as that of a machine
 
 -- the plant changes as it does without observers
 pub plant_of_replay : (s : BookState) (history : List (Call Ask))

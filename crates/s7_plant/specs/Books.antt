@@ -24,13 +24,13 @@ book_told book =
 abbrev pub watches_of : {O : Type 0} → (O → Seen) → Book O → List Watch
 watches_of seen book = map (λ w. watch (seen w.observer) w.since) book.observers.items
 
--- what each observer of a book has, in order
+-- what is seen of each observer of a book, in order
 abbrev pub seen_of : {O : Type 0} → (O → Seen) → Book O → List Seen
 seen_of seen book = map (λ w. seen w.observer) book.observers.items
 
 -- ---- as a machine
 
--- the plant's state, the number of the next entry, and what each observer has
+-- the plant's state, the number of the next entry, and what is seen of each observer
 pub record BookState : Type 0 where
   pub plant : State
   pub number : ℕ

@@ -31,7 +31,7 @@ code_of Compress = 0x0400_0000
 code_of CopyRam = 0x0400_0000
 code_of (Delete kind number) = 0x0400_0000
 
--- the event of a call to this state that becomes the entry of this number
+-- the event of a call in this state; the call becomes the entry of this number
 abbrev pub event_at : State → ℕ → Call Ask → Event
 event_at s number call = record {
   number = number;

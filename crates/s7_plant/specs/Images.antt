@@ -38,7 +38,7 @@ image_of_source opening entries name (Some number) = stored_at name (slice_get e
 abbrev pub sourced : BlockImages → List Entry → Marked → List (BlockName × Option (List ℕ))
 sourced opening entries marks = map (λ e. (e.0, image_of_source opening entries e.0 e.1)) marks
 
--- names with images, each of which exists
+-- the names of images, each with its image as `Some`
 abbrev pub all_there : BlockImages → List (BlockName × Option (List ℕ))
 all_there images = map (λ e. (e.0, Some e.1)) images
 
@@ -105,7 +105,7 @@ abbrev pub kept_state : Kept → Store → State
 kept_state kept blocks =
     record { memory = kept.areas; blocks = blocks; offset = kept.offset; running = kept.running }
 
--- what the record of an entry needs
+-- what has to hold before the images note an entry
 pub record CanBeNoted (images : Images) (entry : ℕ) (request : Request) (error : ℕ) (plant : Plant) : Type 0 where
   pub few : entry < 262144
   pub place : HasPlace images.sources request error

@@ -1,4 +1,4 @@
--- What an observer has after the events that it was notified of, by its mask (Snap7 1.4 reference manual,
+-- What is seen of an observer after the events that it was notified of, by its mask (Snap7 1.4 reference manual,
 -- `Srv_SetMask`). The tail of last events is this profile's own.
 use Rattle.std.specs.Prelude.{◌≡◌, ℕ, ◌+◌, ◌-◌, ◌^◌, ◌==◌, List, [], ◌∷◌, ◌++◌, length, fold, slice_get}
 use Rattle.std.specs.Prelude.{Option, None, if◌then◌else◌, bit_and, min, nat_lt}
@@ -23,14 +23,14 @@ fresh s = seen_with s.mask s.depth 0 []
 abbrev pub IsFresh : Seen → Type 0
 IsFresh s = s ≡ fresh s
 
--- after one event: if its code shares a bit with the mask, the count rises by one, at most to 2^64 - 1, and the event
--- is appended to the tail, of which the last `depth` events stay; any other event changes nothing
+-- an observer after one event: if the event's code shares a bit with the mask, the count rises by one, at most to 2^64
+-- - 1, and the event is appended to the tail, of which the last `depth` events stay; any other event changes nothing
 abbrev pub told_one : Seen → Event → Seen
 told_one s e =
     if bit_and e.code s.mask == 0 then s
     else seen_with s.mask s.depth (min (s.count + 1) (2 ^ 64 - 1)) (keep_last s.depth (s.tail ++ e ∷ []))
 
--- after these events, in order
+-- an observer after these events, in order
 abbrev pub told : Seen → List Event → Seen
 told s events = fold told_one s events
 

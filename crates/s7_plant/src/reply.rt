@@ -6,10 +6,10 @@ ghost use Rattle.s7_plant.specs.Replies.{said, said_of};
 use s7_outer::{Buffer, Memory};
 use std::alloc::Global;
 
-/// The octets of parameters that a reply has room for.
+/// The number of octets of parameters for which a reply has room.
 pub const PARAMS_ROOM: usize = 16;
 
-/// The octets of body that a reply to any request has room for.
+/// The number of octets for which the body of a reply to any request has room.
 pub const BODY_ROOM: usize = 65_572;
 
 /// The answer of a plant to a request.
@@ -38,7 +38,7 @@ impl Reply {
         })
     }
 
-    /// Empties the reply. Its rooms stay.
+    /// Empties the reply. The room for parameters and body stays.
     pub fn clear(&mut self)
         ensures said { said_of self.new ≡ said 0 [] [] }
         ensures params { self.new.params.room ≡ self.old.params.room }
@@ -49,7 +49,7 @@ impl Reply {
         self.body.clear();
     }
 
-    /// Makes the reply a refusal: this error word, no parameters and no body. Its rooms stay.
+    /// Makes the reply a refusal: this error word, no parameters and no body. The room for these stays.
     pub fn refuse(&mut self, error: u16)
         ensures said { said_of self.new ≡ refused error }
         ensures params { self.new.params.room ≡ self.old.params.room }

@@ -54,7 +54,7 @@ is_failed (passage.Unconnected connect) = is_failure connect.code
 is_failed (passage.Unpacked connect) = false
 is_failed (passage.Asked connect told) = is_failure told.code
 
--- whether the far server ended the link in it
+-- whether the far server ended the link in a telegram that got so far
 abbrev pub is_ended : Passage → Bool
 is_ended passage.Near = false
 is_ended passage.Undialled = false

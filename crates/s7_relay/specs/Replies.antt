@@ -17,11 +17,11 @@ use Rattle.s7_relay.specs.declared.passage.Passage.TheVariants as passage
 
 -- ---- far codes and far octets, which are those of the items that travelled, in order
 
--- the far codes after that of an item with this near code
+-- the far codes that are left after an item with this near code
 abbrev pub rest_codes : ℕ → List ℕ → List ℕ
 rest_codes near codes = if near == good then drop 1 codes else codes
 
--- the far octets after those of that item
+-- the far octets that are left after that item
 abbrev pub rest_octets : Item → ℕ → List ℕ → List ℕ → List ℕ
 rest_octets item near codes octets =
     if near == good then drop (count_read item (slice_index codes 0)) octets else octets
@@ -54,7 +54,7 @@ answer_octets item last =
     if item.code == good then data_item_octets good item.word item.octets last
     else item.code ∷ 0x00 ∷ 0x00 ∷ 0x00 ∷ []
 
--- the octets of several, one after another
+-- the octets of several items in an answer, one after another
 abbrev pub answers_octets : List DataItem → List ℕ
 answers_octets [] = []
 answers_octets (item ∷ items) = answer_octets item (length items == 0) ++ answers_octets items
@@ -101,7 +101,7 @@ abbrev pub codes_wanted : List ℕ → ℕ
 codes_wanted [] = 0
 codes_wanted (code ∷ near) = (if code == good then 1 else 0) + codes_wanted near
 
--- the number of octets of those that were read far
+-- the number of octets of the items that were read far
 abbrev pub octets_wanted : List Item → List ℕ → List ℕ → ℕ
 octets_wanted [] near codes = 0
 octets_wanted (item ∷ items) [] codes = 0
@@ -119,17 +119,17 @@ abbrev pub AreOctetsFor : Request → List ℕ → List ℕ → ℕ → Type 0
 AreOctetsFor (Read items) near codes n = n ≡ octets_wanted items near codes
 AreOctetsFor _ near codes n = Unit {0}
 
--- there are as many far codes and far octets as the items that travelled want
+-- there are as many far codes and far octets as the items that travelled need
 pub record AreEnough (request : Request) (near codes octets : List ℕ) : Type 0 where
   pub as_many : length codes ≡ codes_wanted near
   pub as_long : AreOctetsFor request near codes (length octets)
 
--- so it is in a result, if its code is 0
+-- a result with code 0 has as many far codes and far octets as the items that travelled need
 pub record HasEnough (request : Request) (near : List ℕ) (result : JobResult) : Type 0 where
   pub few : result.code ≡ no_fault → result.count ≤ 20
   pub good : result.code ≡ no_fault → AreEnough request near (codes_in result) result.octets
 
--- and so it is wherever a telegram got
+-- there are as many far codes and far octets as needed, if no item travelled, or if the far job ended with code 0
 abbrev pub GivesEnough : Request → List ℕ → Passage → Type 0
 GivesEnough request near passage.Near = AreEnough request near [] []
 GivesEnough request near passage.Undialled = Unit {0}

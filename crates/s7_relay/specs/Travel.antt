@@ -25,14 +25,14 @@ request_codes windows _ = []
 abbrev pub travels : List Window → Request → Bool
 travels windows request = list_any is_good (request_codes windows request)
 
--- the far items of those that travel, in order
+-- the far items of the items that travel, in order
 abbrev pub far_items : List Window → List Item → List ℕ → List Item
 far_items windows [] codes = []
 far_items windows (item ∷ items) [] = []
 far_items windows (item ∷ items) (code ∷ codes) =
     if code == good then far_item windows item ∷ far_items windows items codes else far_items windows items codes
 
--- the octets of those that travel, joined
+-- the octets of the items that travel, joined
 abbrev pub far_octets : List ℕ → List DataPlace → List ℕ → List ℕ
 far_octets [] places octets = []
 far_octets (code ∷ codes) [] octets = []

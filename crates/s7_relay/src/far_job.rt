@@ -73,7 +73,7 @@ pub(crate) fn far_job(
     }
 }
 
-/// The far items of those that travel.
+/// The far items of the items that travel.
 fn far_items(
     alloc: Global,
     windows: &Windows,

@@ -3,7 +3,7 @@
 /// What is wrong with a line of a windows file, in the order in which it is found.
 #[derive(Clone, Copy, Debug, PartialEq, Eq)]
 pub enum WindowKind {
-    /// The line hasn't five fields, or the third isn't `=`.
+    /// The line doesn't have five fields, or the third field isn't `=`.
     Fields,
     /// The near or the far area isn't `PE`, `PA` or `MK` and doesn't begin with `DB`.
     Word,

@@ -41,7 +41,7 @@ pub(crate) fn read_line(text: &[u8]) -> Result<Window, WindowKind>
     }
 }
 
-/// The fields around the `=`; `None` if the line hasn't five fields, or if the third isn't `=`.
+/// The fields around the `=`; `None` if the line doesn't have five fields, or if the third field isn't `=`.
 fn fields_of(text: &[u8]) -> Option<LineFields<'_>>
     ensures { option_map parts_told result ≡ around_sign (fields text.now) }
 {

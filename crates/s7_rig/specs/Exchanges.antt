@@ -168,13 +168,13 @@ AsksFor ClockSetting octets moment request =
 AsksFor Password octets moment request = ⊥
 AsksFor PasswordClearing octets moment request = ⊥
 
--- a password is set or given back, of which no plant is asked
+-- the subject is a password, which is set or given back; no plant is asked about it
 abbrev pub IsSecurity : Subject → Type 0
 IsSecurity Password = Unit {0}
 IsSecurity PasswordClearing = Unit {0}
 IsSecurity _ = ⊥
 
--- the octets name a kind that doesn't exist, or no block, of which no plant is asked
+-- the octets name a kind that doesn't exist, or no block; no plant is asked about such a name
 abbrev pub NamesNone : Subject → List ℕ → Type 0
 NamesNone BlocksOfKind octets = is_some (head_code (slice_index octets 1)) ≡ false
 NamesNone BlockHead octets = named octets 0x41 ≡ None

@@ -10,7 +10,7 @@ use Rattle.s7_rig.specs.Scripts.{Script, left_behind}
 use Rattle.s7_rig.specs.Shown.{ClientTold, EndTold}
 use Rattle.s7_rig.specs.Split.{Rise}
 
--- the results are those of the first jobs in order, by a client that halts or not, and these jobs are left
+-- the results are those of the first jobs, in order, for a client that halts or doesn't; the jobs `left` are left
 unfoldable pub Follow : Bool → List Job → List JobResult → List Job → Type 0
 Follow halts jobs [] left = left ≡ jobs
 Follow halts [] (told ∷ results) left = ⊥

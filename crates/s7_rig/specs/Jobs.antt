@@ -17,17 +17,17 @@ use Rattle.s7_rig.specs.Dialogues.{IsJobOver, IsJobSettled, IsConnectOver, IsCon
 use Rattle.s7_rig.specs.Scripts.{IsNoConnect}
 use Rattle.s7_rig.specs.Split.{ReadStands}
 
--- EACH JOB IS SETTLED that ends by octets which are a prefix of the expected output of a session for what its client
--- sent: a read with code 0 read what its entries read, in their order; these are at rising numbers of a history; and a
--- first connect succeeds.
+-- JOBS ARE SETTLED that end by octets which are a prefix of the expected output of a session for what their client
+-- sent. If such a job is a read with code 0, it read what its entries read, in their order; these entries are at rising
+-- numbers of a history. If it is a first connect, it succeeds.
 pub record JobsAreSettled : Type 0 where
   pub settled : (first : LinkState) (origin : Origin) (pdu : ℕ) (heard sent : List ℕ) (end : End)
       (carried b used : List ℕ) (js verdicts : List Verdict) (behind : List ℕ)
       → IsJobOver first origin pdu heard sent end carried b used js verdicts behind
       → IsJobSettled first origin pdu heard sent end b used js verdicts behind
-  -- and if the session is a link's on a book that began with this memory, what a read with code 0 gave is what the
-  -- areas held at the numbers of its entries, which rise: they are the link's own calls in the history, after the
-  -- earlier ones
+  -- Suppose that the session is a link's on a book that began with this memory. Then what a read with code 0 gave is
+  -- what the areas held at the numbers of its entries, which rise. These entries are the link's own calls in the
+  -- history, after the earlier ones.
   pub stands : (opening : Memory) (history : History) (link : ℕ) (earlier mine : List Entry)
       (first : LinkState) (origin : Origin) (pdu : ℕ) (heard sent : List ℕ) (end : End) (carried b used : List ℕ)
       (js verdicts : List Verdict) (behind : List ℕ)

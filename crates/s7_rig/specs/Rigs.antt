@@ -48,14 +48,14 @@ pub record RigRan (opening : Memory) (limit : ℕ) (config : Config) (scripts : 
   -- entries
   pub reads : AllByRecursion (λ (c : ClientTold). AllStand (plant.begins_with opening) (history_of end.book) c.link
       config.pdu c.results c.places) end.clients
-  -- and if the journal has room left, each job that can succeed does, unless it timed out
+  -- if the journal has room left, each job that can succeed does, unless it timed out
   pub complete : length (history_of end.book) < limit
       → AllByRecursion (λ (c : ClientTold). AllComeOff opening (history_of end.book) config.pdu c.results c.places)
       end.clients
 
 -- ---- a rig for which an allocation failed
 
--- such a rig came to this state: its run stopped there, or ended there
+-- a rig over these areas, with a client for each script, came to this state, in which its run stopped or ended
 pub record CameTo (opening : Memory) (limit : ℕ) (config : Config) (scripts : List Script) (turning : Turning)
     (last : State) : Type 0 where
   pub start : State

@@ -66,7 +66,7 @@ pub record IsFreshPost (guard : Option Guard) (config : Config) (link : ℕ) (sc
   pub places : p.places ≡ []
   pub noted : p.noted ≡ None
 
--- such a client for each script, with links numbered in order from this one
+-- for each script a client and a session that have done nothing; their links have consecutive numbers, from this one on
 unfoldable pub AreFresh : Option Guard → Config → ℕ → List Script → List Post → Type 0
 AreFresh guard config link [] [] = Unit {0}
 AreFresh guard config link [] (p ∷ posts) = ⊥

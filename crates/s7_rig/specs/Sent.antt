@@ -25,7 +25,7 @@ in_turns octets [] old new stirs h = []
 in_turns octets (actor ∷ actors) old new stirs h =
     octets actor old h.0 h.1 h.3 ++ in_turns octets actors h.0 new h.2 h.4
 
--- the octets of the second case, none of the first
+-- the octets of the second case; none in the first case
 abbrev pub second_or_none : {A B : Type 0} → A ⊎ B → (B → List ℕ) → List ℕ
 second_or_none (inl a) octets = []
 second_or_none (inr b) octets = octets b

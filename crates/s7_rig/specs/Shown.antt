@@ -55,7 +55,7 @@ results_in_first (c ∷ clients) = c.results
 abbrev pub first_results : EndTold → List JobResult
 first_results end = results_in_first end.clients
 
--- the same of a state
+-- what a client has done so far, as a result: its link, its results and their entries' numbers
 abbrev pub post_told : Post → ClientTold
 post_told p = record { link = p.link; results = p.results; places = p.places }
 

@@ -52,8 +52,8 @@ AreGroupsReadAt opening history link (group ∷ groups) (number ∷ numbers) oct
     × IsGroupReadAt opening history link group number front first
     × AreGroupsReadAt opening history link groups numbers rest others
 
--- A READ OF SEVERAL ITEMS: the numbers rise, there is one for each group of items that fits a telegram, and the octets
--- and codes are those of the areas at that call
+-- A READ OF SEVERAL ITEMS: the numbers rise, there is one for each group of items that fits a telegram, and each group
+-- has the octets and codes that the areas gave at its call
 pub record GroupedRead (opening : State) (history : History) (numbers : List ℕ) (link : ℕ) (items : List Item) (pdu : ℕ)
     (octets codes : List ℕ) : Type 0 where
   pub rise : Rise numbers
@@ -66,8 +66,8 @@ abbrev pub AreReadAt : State → History → ℕ → List Item → List ℕ → 
 AreReadAt opening history link parts numbers octets =
     (codes : List ℕ) × AreGood codes × AreGroupsReadAt opening history link (alone parts) numbers octets codes
 
--- A SPLIT READ: the numbers rise, there is one for each part of the item, and the octets are those that the areas held
--- at that call
+-- A SPLIT READ: the numbers rise, there is one for each part of the item, and each part has the octets that the areas
+-- held at its call
 pub record SplitRead (opening : State) (history : History) (numbers : List ℕ) (link : ℕ) (item : Item) (pdu : ℕ)
     (octets : List ℕ) : Type 0 where
   pub rise : Rise numbers

@@ -12,7 +12,7 @@ pub record Tells (old new : List JobResult) (before after : Option Told) : Type 
   pub results : new ≡ old ++ gained
   pub told : after ≡ option_map (λ t. told_of_results t gained) before
 
--- the same for the results of a rig's first client
+-- a completion was notified of each new result of a rig's first client, as `Tells` states
 abbrev pub TellsFirst : State → State → Option Told → Option Told → Type 0
 TellsFirst old new before after = Tells (first_results (state_told old)) (first_results (state_told new)) before after
 

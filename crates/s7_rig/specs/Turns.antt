@@ -67,7 +67,7 @@ is_done (polled.Done told) = true
 is_done polled.Pending = false
 is_done polled.Idle = false
 
--- a client polls over its end of the pipes, by whichever borrow
+-- a client polls over its end of the pipes, which it borrows
 pub record PollsOver (client : Connection) (pipes : PipesHeld) (client' : Connection) (pipes' : PipesHeld) (result : Polled)
     : Type 0 where
   pub loan : GName
@@ -104,14 +104,16 @@ is_full_in book ask = length (history_of book) ≡ book.journal.limit
 abbrev pub lacks_in : BookTold → Ask → Type 0
 lacks_in book ask = ⊥
 
--- The book's entries say what was done with a request, and `GoesOnBy` what a book keeps, so nothing more is said here.
+-- Nothing is stated here of a request that was done: the book's entries state it, and `GoesOnBy` states what a book
+-- keeps.
 abbrev pub did_in : BookTold → Ask → Option (ℕ × Said) → BookTold → Type 0
 did_in book ask answer book' = Unit {0}
 
 abbrev pub keeps_in : BookTold → BookTold → Type 0
 keeps_in book book' = Unit {0}
 
--- a session takes a turn over its end of the pipes, by whichever borrow, and the book goes on by calls of its link
+-- a session takes a turn over its end of the pipes, which it borrows; of the book, no entry is lost, and each new one
+-- is a call of the session's link
 pub record TakesTurn (link : ℕ) (session : Session) (pipes : PipesHeld) (book : BookTold) (session' : Session)
     (pipes' : PipesHeld) (book' : BookTold) (result : Turn) : Type 0 where
   pub loan : GName

@@ -43,9 +43,9 @@ pub fn jobs_are_settled()
     ensures { JobsAreSettled }
 {}
 
-/// A law: the session is a link's on a book, and the history wasn't full and the clock didn't fail for any telegram of
-/// the job. Then a job of a connected client that can succeed has code 0. So every read and every write succeeds that
-/// is in range, fits, and needs no right that the link lacks.
+/// A law: suppose that the session is a link's on a book, and that for no telegram of a job the history was full or the
+/// clock failed. Then the job, if it can succeed and its client is connected, has code 0. So every read and every write
+/// succeeds that is in range, fits, and needs no right that the link lacks.
 pub fn jobs_come_off()
     ensures { JobsComeOff }
 {}

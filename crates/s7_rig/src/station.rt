@@ -23,7 +23,7 @@ pub struct Station {
     pub(crate) results: Vec<JobResult>,
     /// For each job that is done, the numbers of its entries.
     pub(crate) places: Vec<Places>,
-    /// The numbers of the entries so far of the job under way, `None` if no job is.
+    /// The numbers of the entries that the job under way has made so far; `None` if no job is under way.
     pub(crate) noted: Option<Places>,
     ghost idle: { noted ≡ None → job_of client ≡ None },
     ghost busy: { IsSome noted → IsSome (job_of client) },

@@ -15,8 +15,8 @@ pub struct Row<'a> {
 }
 
 impl<'a> Row<'a> {
-    /// The value of the line with this word that `before` others precede: of the row's own lines if they have such a
-    /// line, otherwise of its table's.
+    /// The value of a line with this word: the one after the first `before` such lines. It is one of the row's own
+    /// lines if they have such a line, otherwise one of its table's.
     pub fn nth(&self, link: u64, word: &str, before: u64) -> Option<&'a str> {
         if find(self.own, link, word, 0).is_some() {
             find(self.own, link, word, before)
@@ -44,7 +44,7 @@ impl<'a> Row<'a> {
     }
 }
 
-/// The value of the line with this word that `before` others precede, among these lines.
+/// The value of the line with this word that comes after the first `before` such lines, among these lines.
 fn find<'a>(lines: &'a str, link: u64, word: &str, before: u64) -> Option<&'a str> {
     let mut of = 0;
     let mut left = before;

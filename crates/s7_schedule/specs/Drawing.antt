@@ -13,7 +13,7 @@ first_x seed = seed % 2147483648
 abbrev pub number_by : ℕ → ℕ
 number_by x = x / 65536
 
--- this number of numbers, drawn from the x after this one on
+-- a number of numbers; the first is drawn from the x after this one, and each other one from the x after that
 unfoldable pub drawn_from : ℕ → ℕ → List ℕ
 drawn_from x zero = []
 drawn_from x (suc more) = number_by (next_x x) ∷ drawn_from (next_x x) more
@@ -22,7 +22,7 @@ drawn_from x (suc more) = number_by (next_x x) ∷ drawn_from (next_x x) more
 abbrev pub actor_by : ℕ → ℕ → ℕ
 actor_by x actors = number_by x % actors
 
--- the actors of this number of turns
+-- the actors of `steps` turns, each drawn from the next x
 unfoldable pub drawn : ℕ → ℕ → ℕ → List ℕ
 drawn x zero actors = []
 drawn x (suc steps) actors = actor_by (next_x x) actors ∷ drawn (next_x x) steps actors

@@ -16,21 +16,23 @@ use Rattle.s7_script.specs.declared.areas.load.LoadFault.TheVariants as fault
 abbrev pub opening : ℕ → List ℕ → Memory
 opening number octets = with_area no_areas (record { area = data_blocks; number = number }) octets
 
--- the first faulty line
+-- the areas that were read, or only the line of the fault
 abbrev pub with_line_fault : Result Memory AreasFault → Result Memory LoadFault
 with_line_fault (Ok m) = Ok m
 with_line_fault (Err e) = Err (fault.Line e.line)
 
 -- ---- what is read under a path
 
--- THE OCTETS READ UNDER A PATH, no more than the limit and those of the file if the files show them, have this property
+-- THE OCTETS READ UNDER A PATH have this property. They are at most as many as the limit, and they are those of the
+-- file if the files show them.
 pub record Reads (p : Text) (files : FilesShown) (says : Text → Type 0) : Type 0 where
   pub octets : Text
   pub sized : length octets ≤ file_limit
   pub held : IsTrue files.tells → files.held p ≡ Some octets
   pub so : says octets
 
--- MORE OCTETS THAN THE LIMIT WERE READ under a path; they are the first octets of a longer file if the files show them
+-- MORE OCTETS THAN THE LIMIT WERE READ under a path: one more. They are the first octets of a longer file if the files
+-- show them.
 pub record ReadsTooMany (p : Text) (files : FilesShown) : Type 0 where
   pub octets : Text
   pub passed : length octets ≡ file_limit + 1

@@ -20,7 +20,7 @@ abbrev pub block_number : Option ℕ → Option ℕ
 block_number None = None
 block_number (Some n) = if nat_le 1 n && nat_le n 65535 then Some n else None
 
--- as many octets as an area may have
+-- the octets of an inline word, if an area may have as many
 abbrev pub block_octets : Result (List ℕ) FromHexError → Option (List ℕ)
 block_octets (Err e) = None
 block_octets (Ok octets) = if nat_le 1 (length octets) && nat_le (length octets) most_octets then Some octets else None

@@ -112,13 +112,13 @@ or_dash (b ∷ bs) = b ∷ bs
 abbrev pub values_text : List Text → Text
 values_text vs = or_dash (flat_map spaced vs)
 
--- line, word, code and values
+-- THE LINE of a result: the number of the script's line, the word of the job, its code, and its values
 abbrev pub print : ℕ → JobResult → Text
 print line r =
     decimal line ++ 32 ∷ word_of r.job ++ 32 ∷ encode_upper (four_octets r.code) ++ values_text (values r) ++ 10 ∷ []
 
--- of several items there are as many codes as items, and the octets of those that were read; the octets of a clock have
--- a date and time, and those of a run state show it
+-- a result of several items has as many codes as items, and the octets of the items that were read; the octets of a
+-- clock have a date and time, and those of a run state show it
 abbrev pub IsPrintableOf : JobResult → Job → Type 0
 IsPrintableOf r (job.ReadMany items) = (r.count ≤ 20) × (r.count ≡ length items) × (length r.octets ≡ octets_read items (codes_of r))
 IsPrintableOf r (job.WriteMany items octets) = (r.count ≤ 20) × (r.count ≡ length items)

@@ -79,7 +79,7 @@ area_named name =
     else (if bytes_eq name (codes "DB") then Some data_blocks
     else None)))))
 
--- there are no more fields
+-- the name and the length of an area, if no field is left after them
 abbrev pub ended : ℕ → AreaKey × ℕ → Option Text → Result (AreaKey × ℕ) AreasFault
 ended line area None = Ok area
 ended line area (Some rest) = fault_at line kind.Line
@@ -111,12 +111,12 @@ area_line line text = named_line line (area_named (field_of text))
 
 -- ---- a line of octets
 
--- the octets of hexadecimal digits
+-- the octets that the hexadecimal digits of a line spell, or the line's fault
 abbrev pub hex_octets : ℕ → Result (List ℕ) FromHexError → Result (List ℕ) AreasFault
 hex_octets line (Ok octets) = Ok octets
 hex_octets line (Err e) = fault_at line kind.Digits
 
--- the octet of two hexadecimal digits
+-- the octet that two hexadecimal digits spell, or the line's fault
 abbrev pub run_octet : ℕ → Result (List ℕ) FromHexError → Result ℕ AreasFault
 run_octet line (Ok octets) = Ok (slice_index octets 0)
 run_octet line (Err e) = fault_at line kind.Digits

@@ -31,7 +31,7 @@ abbrev pub within : ℕ → ℕ → Option ℕ → Result ℕ ScriptKind
 within low high None = Err kind.Number
 within low high (Some n) = if nat_le low n && nat_le n high then Ok n else Err kind.Number
 
--- there are no more fields
+-- what was read, if no field is left after it
 abbrev pub ended : {A : Type 0} → A → Option Text → Result A ScriptKind
 ended x None = Ok x
 ended x (Some rest) = Err kind.Fields
@@ -72,7 +72,7 @@ word_of (Some word) = Ok word
 abbrev pub is_point : ℕ → Bool
 is_point b = b == 46
 
--- octet and bit, with a point between them
+-- an octet and a bit, with a point between them
 abbrev pub bit_place : Text → Option ℕ → Result ℕ ScriptKind
 bit_place field None = Err kind.Number
 bit_place field (Some point) = do
@@ -113,7 +113,7 @@ with_word key (Some text) = do
   word ← word_of (word_named (field_of text))
   with_start key word (rest_of text)
 
--- KEY WORD START
+-- the place that the fields KEY WORD START name, and the fields after them
 abbrev pub place : Text → Result Place ScriptKind
 place text = do
   key ← key_of (field_of text)
@@ -134,7 +134,7 @@ with_count p (Some text) = do
   count ← within 0 65535 (number_of (field_of text))
   ended (item_at p count) (rest_of text)
 
--- KEY WORD START COUNT
+-- the item that the fields KEY WORD START COUNT name
 abbrev pub read_item : Text → Result Item ScriptKind
 read_item text = do
   p ← place text
@@ -144,7 +144,7 @@ read_item text = do
 abbrev pub element_size : ℕ → ℕ
 element_size word = unwrap_or (size_of word) 1
 
--- as many elements as the octets make
+-- the item with as many elements as these octets make; they have to be whole elements
 abbrev pub counted : Place → ℕ → Result Item ScriptKind
 counted p octets =
     if octets % element_size p.word == 0
@@ -163,7 +163,7 @@ with_octets p rest (Ok octets) = do
   item ← counted p (length octets)
   ended (item, octets) rest
 
--- an even number of hexadecimal digits, at least two
+-- the item and the octets of hexadecimal digits, which are an even number, at least two
 abbrev pub with_digits : Place → Text → Option Text → Result Written ScriptKind
 with_digits p field rest =
     if length field == 0 then Err kind.Digits else with_octets p rest (decode_of field)
@@ -172,7 +172,7 @@ abbrev pub with_hex : Place → Option Text → Result Written ScriptKind
 with_hex p None = Err kind.Fields
 with_hex p (Some text) = with_digits p (field_of text) (rest_of text)
 
--- KEY WORD START HEX
+-- the item and the octets that the fields KEY WORD START HEX name
 abbrev pub written_item : Text → Result Written ScriptKind
 written_item text = do
   p ← place text
@@ -243,7 +243,7 @@ kind_named name =
     else (if bytes_eq name (codes "SFB") then Some 0x46
     else None))))))
 
--- KIND
+-- the job of a line `listof KIND`, by the fields after its word
 abbrev pub list_of_job : Option Text → Result Job ScriptKind
 list_of_job None = Err kind.Fields
 list_of_job (Some text) = do
@@ -256,7 +256,7 @@ with_number of (Some text) = do
   number ← within 0 65535 (number_of (field_of text))
   ended (record { kind = of; number = number }) (rest_of text)
 
--- KIND NUMBER
+-- the block that the fields KIND NUMBER name
 abbrev pub block_named : Option Text → Result BlockName ScriptKind
 block_named None = Err kind.Fields
 block_named (Some text) = do
@@ -277,7 +277,8 @@ abbrev pub with_image : Option Text → Result (List ℕ) FromHexError → Resul
 with_image rest (Err e) = Err kind.Digits
 with_image rest (Ok image) = ended (job.Download image) rest
 
--- HEX, an even number of hexadecimal digits, at least two
+-- the job of a line `download HEX`, by the fields after its word; HEX has an even number of hexadecimal digits, at
+-- least two
 abbrev pub download_job : Option Text → Result Job ScriptKind
 download_job None = Err kind.Fields
 download_job (Some text) =
@@ -289,7 +290,7 @@ delete_job rest = do
   name ← block_named rest
   Ok (job.Delete name.kind name.number)
 
--- NUMBER
+-- the job of a line `dbget NUMBER`, by the fields after its word
 abbrev pub db_get_job : Option Text → Result Job ScriptKind
 db_get_job None = Err kind.Fields
 db_get_job (Some text) = do
@@ -307,7 +308,7 @@ with_value number (Some text) = do
   value ← octet_in (decode_of (field_of text))
   ended (job.DbFill number value) (rest_of text)
 
--- NUMBER HH
+-- the job of a line `dbfill NUMBER HH`, by the fields after its word
 abbrev pub db_fill_job : Option Text → Result Job ScriptKind
 db_fill_job None = Err kind.Fields
 db_fill_job (Some text) = do
@@ -325,7 +326,7 @@ with_index id (Some text) = do
   index ← two_octets_in (decode_of (field_of text))
   ended (job.Szl id index) (rest_of text)
 
--- ID INDEX
+-- the job of a line `szl ID INDEX`, by the fields after its word
 abbrev pub list_job : Option Text → Result Job ScriptKind
 list_job None = Err kind.Fields
 list_job (Some text) = do
@@ -336,7 +337,8 @@ abbrev pub moment_job : Option ℕ → Option Text → Result Job ScriptKind
 moment_job None rest = Err kind.Number
 moment_job (Some moment) rest = ended (job.ClockSet moment) rest
 
--- YYYY-MM-DDThh:mm:ss.mmm, a date and time of the years 1990 to 2089
+-- the job of a line `setclock YYYY-MM-DDThh:mm:ss.mmm`, by the fields after its word; the date and time are of the
+-- years 1990 to 2089
 abbrev pub set_clock_job : Option Text → Result Job ScriptKind
 set_clock_job None = Err kind.Fields
 set_clock_job (Some text) = moment_job (moment_named (field_of text)) (rest_of text)
@@ -351,7 +353,7 @@ password_job (Some text) =
     if list_all is_printable (field_of text) then ended (job.PasswordSet (field_of text)) (rest_of text)
     else Err kind.Word
 
--- the jobs without fields
+-- the job of a word without fields
 abbrev pub plain_job : Text → Option Job
 plain_job name =
     if bytes_eq name (codes "list") then Some job.List

@@ -22,13 +22,13 @@ abbrev pub four_octets_in : Result (List ℕ) FromHexError → Result ℕ Script
 four_octets_in (Ok (a ∷ b ∷ c ∷ d ∷ [])) = Ok (((a * 256 + b) * 256 + c) * 256 + d)
 four_octets_in _ = Err kind.Digits
 
--- at most 65,535 octets
+-- the block with these octets, of which there are at most 65,535; no field is left after them
 abbrev pub with_body : ℕ → Option Text → Result (List ℕ) FromHexError → Result Send ScriptKind
 with_body rid rest (Err e) = Err kind.Digits
 with_body rid rest (Ok octets) =
     if nat_le (length octets) 65535 then ended (record { rid = rid; body = octets }) rest else Err kind.Number
 
--- an even number of hexadecimal digits, at least two
+-- the block with the octets of hexadecimal digits, which are an even number, at least two
 abbrev pub with_digits : ℕ → Text → Option Text → Result Send ScriptKind
 with_digits rid field rest = if length field == 0 then Err kind.Digits else with_body rid rest (decode_of field)
 
@@ -36,7 +36,7 @@ abbrev pub with_hex : ℕ → Option Text → Result Send ScriptKind
 with_hex rid None = Err kind.Fields
 with_hex rid (Some text) = with_digits rid (field_of text) (rest_of text)
 
--- RID HEX
+-- the block that the fields RID HEX give
 abbrev pub block_sent : Option Text → Result Send ScriptKind
 block_sent None = Err kind.Fields
 block_sent (Some text) = do

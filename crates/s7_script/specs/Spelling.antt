@@ -91,7 +91,7 @@ part_of key (Some octets) = area_text key octets
 unfoldable pub part : Memory → AreaKey → Text
 part m key = part_of key (area_octets m key)
 
--- the number is within its field, and the octets, if there is an area of this name, are octets
+-- the number fits two octets, and if there is an area of this name, its contents are octets
 abbrev pub IsInRange : Memory → AreaKey → Type 0
 IsInRange m key = (key.number < 65536) × IfSome (area_octets m key) IsBytes
 

@@ -21,7 +21,7 @@ abbrev pub value_got : TagKind → JobResult → Job → Text
 value_got of r (job.ReadArea item) = if r.code == 0 then shown of r.octets else codes "-"
 value_got of r other = codes "-"
 
--- line, word, code and value
+-- THE LINE of a result: the number of the script's line, the word of the job, its code, and its value
 abbrev pub print_tag : ℕ → TagKind → JobResult → Text
 print_tag line of r =
     decimal line ++ 32 ∷ tag_word r.job ++ 32 ∷ encode_upper (four_octets r.code) ++ 32 ∷ value_got of r r.job ++ 10 ∷ []

@@ -30,7 +30,7 @@ known (Some tag) = Ok tag
 abbrev pub tag_named : Text → List Tag → Result Tag ScriptKind
 tag_named name tags = known (find (λ (t : Tag). bytes_eq t.name name) tags)
 
--- NAME
+-- the job of a line `get NAME`, by the fields after its word
 abbrev pub get_job : List Tag → Option Text → Result Tagged ScriptKind
 get_job tags None = Err kind.Fields
 get_job tags (Some text) = do
@@ -48,7 +48,7 @@ put_value tag (Some text) = do
   octets ← value_or_fault (octets_said tag.kind (field_of text))
   ended (job.WriteArea tag.item octets, Some tag.kind) (rest_of text)
 
--- NAME VALUE
+-- the job of a line `put NAME VALUE`, by the fields after its word
 abbrev pub put_job : List Tag → Option Text → Result Tagged ScriptKind
 put_job tags None = Err kind.Fields
 put_job tags (Some text) = do

@@ -35,7 +35,7 @@ entries_by (handled.Entered number) = 1
 entries_by handled.NoMemory = 0
 entries_by handled.NotS7 = 0
 
--- What handling one message does: the expected output was queued, the doer entered what was asked, and of the line at
+-- What handling one message does: the expected output was queued, the doer entered what was asked, and of the link at
 -- most the clock was used.
 pub record Answers {D : Type 0} (stands : D → List Entry → Type 0) (is_full may_lack : D → Ask → Type 0)
     (did : D → Ask → Option (ℕ × Said) → D → Type 0) (keeps : D → D → Type 0)
@@ -59,7 +59,7 @@ pub record Answers {D : Type 0} (stands : D → List Entry → Type 0) (is_full 
   pub last : (before : Option ℕ) → last_number before entries ≡ last_after before result
   pub doer : (es : List Entry) → stands d es → stands d' (es ++ entries)
   pub trail : Trail is_full may_lack did keeps d (made verdicts).mets entries d'
-  -- nothing of the line changed but two counters: of its clock's failures, by as many as the verdict says, and of its
+  -- nothing of the link changed but two counters: of its clock's failures, by as many as the verdict says, and of its
   -- clock's reads, by one if the telegram needs the time
   pub line_is : line' ≡ record line { clock_faults = line'.clock_faults; looks = line'.looks }
   pub clock : RoseExactly (clock_failures verdicts) line.clock_faults line'.clock_faults

@@ -41,7 +41,8 @@ own s link history = own_from 0 s link history
 abbrev pub AreOf : ℕ → History → Type 0
 AreOf link history = AllByRecursion (λ (call : Call Ask). call.caller ≡ link) history
 
--- A book goes on by calls of one link: its opening and its limit stay, and no entry is lost.
+-- What calls of one link leave of a book: its opening and its limit stay, no entry is lost, and each new entry is a
+-- call of this link.
 pub record GoesOnBy (link : ℕ) (old new : BookTold) : Type 0 where
   pub opening : new.opening ≡ old.opening
   pub limit : new.journal.limit ≡ old.journal.limit
@@ -49,8 +50,8 @@ pub record GoesOnBy (link : ℕ) (old new : BookTold) : Type 0 where
   pub history : history_of new ≡ history_of old ++ calls
   pub own : AreOf link calls
 
--- While the book went on, each of its observers was notified of the events of the calls that were entered, in order and
--- of each once, and of nothing else.
+-- While a book gained entries, each of its observers was notified of the events of the calls that were entered, in
+-- order and of each once, and of nothing else.
 pub record AreToldOn (old new : BookTold) (ws ws' : List Watch) : Type 0 where
   pub calls : History
   pub history : history_of new ≡ history_of old ++ calls

@@ -9,7 +9,7 @@ use Rattle.s7_session.specs.LinkState.{LinkState, Download}
 use Rattle.s7_session.specs.ServerJobs.{job_of}
 use Rattle.s7_session.specs.Slices.{sliced_of}
 
--- a link holds a download unless its image is idle
+-- a link holds a download unless the progress of its image is idle
 abbrev pub held_as : BlockName → Progress → Option Download
 held_as name idle = None
 held_as name (awaiting len octets) = Some (record { name = name; progress = awaiting len octets })

@@ -12,12 +12,12 @@ module _ {D : Type 0} where
   abbrev pub StaysFull : (D → Ask → Type 0) → D → D → Type 0
   StaysFull is_full d e = (ask : Ask) → is_full d ask → is_full e ask
 
-  -- a doer goes on by a call: it stays full for what it was full for, and keeps what no call changes
+  -- a doer after a call: it stays full for what it was full for, and keeps what no call changes
   abbrev pub GoesOn : (D → Ask → Type 0) → (D → D → Type 0) → D → D → Type 0
   GoesOn is_full keeps d e = StaysFull is_full d e × keeps d e
 
-  -- A telegram has this verdict of a doer, which made these entries for it, one or none. Entered: the doer wasn't full
-  -- for the request, whose moment is 0 if it needs none, and entered it. Full: the doer is full for it afterwards, and
+  -- A doer gave a telegram this verdict, and made these entries for it: one or none. Entered: the doer wasn't full for
+  -- the request, whose moment is 0 if it needs none, and entered it. Full: the doer is full for it afterwards, and
   -- didn't enter it. Clock failed: the request needs a moment, and the doer wasn't called. No memory: the request is
   -- copied, and the doer wasn't called; or an allocation of the doer's for it may fail, and the doer didn't enter it.
   -- `did` says what the doer did with a request that it entered, by the entry's number and the reply, or didn't enter.

@@ -40,7 +40,7 @@ pub record Made : Type 0 where
 
 -- ---- a message
 
--- the message is answered, or needs no answer, without the plant
+-- the message is answered without the plant, or needs no answer
 abbrev pub settled : Option ℕ → LinkState → List ℕ → List Verdict → Made
 settled size link out verdicts =
     record { size = size; link = link; out = out; mets = []; verdicts = verdicts; standing = lives }

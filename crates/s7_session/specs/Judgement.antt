@@ -55,8 +55,8 @@ use Rattle.s7_session.specs.declared.judge.Refusal.{Refusal}
 use Rattle.s7_session.specs.declared.judge.Refusal.TheVariants.{UnknownFunction, NotNegotiated, Unreadable, OverPdu}
 use Rattle.s7_session.specs.declared.judge.Refusal.TheVariants.{NotAllowed}
 
--- a message that asks the plant: its request by the moment, whether it needs a moment, whether the request is copied,
--- and, by the reply that was entered, the link's state afterwards and the messages that answer it
+-- A message that asks the plant. Its request depends on the moment. It may need a moment, and its request may be
+-- copied. The link's state afterwards, and the messages that answer it, depend on the reply that was entered.
 pub record Asking : Type 0 where
   pub ask : ℕ → Ask
   pub is_timed : Bool
@@ -369,7 +369,8 @@ user_link link pdu group subfunction reply = record link {
       else None;
 }
 
--- the request by user data of this group and subfunction, by the moment; `is_timed` says whether it needs one
+-- the request that user data of this group and subfunction makes, which depends on the moment; `is_timed` says whether
+-- it needs one
 abbrev pub by_user : LinkState → ℕ → ℕ → ℕ → ℕ → Bool → (ℕ → Request) → Asking
 by_user link pdu sequence group subfunction is_timed request = record {
   ask = λ moment. asked link.right (request moment);

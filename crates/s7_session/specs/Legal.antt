@@ -14,8 +14,8 @@ use Rattle.s7_session.specs.Telegrams.{MemoryIsLast, AreCaused, AllAt, last_numb
 
 -- ---- for a link
 
--- WHAT A HISTORY CONTAINS OF A LINK. The history began at a state and has room for `limit` calls. The link's telegrams
--- asked this and have these verdicts, and its clock showed this moment.
+-- WHAT A HISTORY CONTAINS OF A LINK. The history began at the state `opening` and has room for `limit` calls. `mets`
+-- are the link's telegrams that asked, with their verdicts, and `moment` is what its clock showed.
 pub record IsCalledFor (opening : State) (limit : ℕ) (history : History) (link : ℕ) (mets : List Met)
     (moment : Option ℕ)
     : Type 0 where
@@ -40,9 +40,9 @@ pub record IsCounted (opening : State) (history : History) (link : ℕ) (mets : 
   pub count : entries ≡ length (own opening link history)
   pub last : newest ≡ last_number None (own opening link history)
 
--- A history that began at a state and has room for `limit` calls is legal for a link. The link's telegrams asked this
--- and have these verdicts; its clock showed this moment; `entries` of its telegrams were entered, the newest under this
--- number.
+-- A history that began at the state `opening` and has room for `limit` calls is legal for a link. `mets` are the link's
+-- telegrams that asked, with their verdicts, and `moment` is what its clock showed. `entries` of its telegrams were
+-- entered, the newest under the number `newest`.
 pub record IsLegalFor (opening : State) (limit : ℕ) (history : History) (link : ℕ) (mets : List Met)
     (moment : Option ℕ) (entries : ℕ) (newest : Option ℕ)
     : Type 0 where

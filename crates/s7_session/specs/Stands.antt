@@ -113,7 +113,7 @@ pub record Moves {D : Type 0} (stands : D → List Entry → Type 0) (is_full ma
   pub lent : link'.lent ≡ link.lent
   pub shut : link'.shut ≡ link.shut
   pub inbox : unread old ++ received ≡ used ++ unread new
-  -- for whatever the session represents
+  -- this holds whatever the session represents
   pub stood : (first : LinkState) (b : List ℕ) (js : List Verdict) (w : List ℕ) → Stands first old b js w
       → Stands first new (b ++ used) (js ++ verdicts_of mets) (w ++ written)
   pub asked : (first : LinkState) (b : List ℕ) (js : List Verdict) (w : List ℕ) → Stands first old b js w
@@ -201,10 +201,10 @@ pub record IsTurn {D : Type 0} (stands : D → List Entry → Type 0) (is_full m
   pub not_yet : result ≡ turn.NotYet
       → (moves.received ≡ []) × (moves.used ≡ []) × (moves.written ≡ []) × Rose link.waits link'.waits
       × HasMetNotYet old link × (unsent new ≡ unsent old)
-  -- it receives only if nothing is left to send or to use, and uses octets only if nothing is left to send
+  -- the turn receives only if nothing is left to send or to use, and uses octets only if nothing is left to send
   pub receives : 0 < length moves.received → IsIdle old
   pub uses : 0 < length moves.used → unsent old ≡ []
-  -- so a receive fails only then, and a transmit fails only if octets are left to send
+  -- so a receive fails only if nothing is left to send or to use, and a transmit fails only if octets are left to send
   pub read_fails : result ≡ turn.Closed outcome.ReadFault → closed_with old ≡ None → IsIdle old × (moves.used ≡ [])
   pub write_fails : result ≡ turn.Closed outcome.WriteFault → closed_with old ≡ None
       → (0 < length (unsent old)) × (moves.used ≡ [])

@@ -80,7 +80,7 @@ impl Query {
         }
     }
 
-    /// The request to the plant. A query about the clock needs the time, so the line's clock is read once; any other
+    /// The request to the plant. A query about the clock needs the time, so the link's clock is read once; any other
     /// query reads no clock. `None` if the clock failed.
     pub(crate) fn request<L: Link + Clock>(self, line: &mut L) -> Option<Request>
         ensures some { IfSome result (IsMade self (L.shows line.old).moment) }
@@ -117,7 +117,7 @@ impl Query {
     }
 }
 
-/// The time by the line's clock, in milliseconds since 1970; `None` if the clock failed.
+/// The time by the link's clock, in milliseconds since 1970; `None` if the clock failed.
 fn moment<L: Link + Clock>(line: &mut L) -> Option<u64>
     ensures told { IfSome result (λ moment. IsAt (L.shows line.old).moment (Some moment)) }
     ensures failed { IfNone result (Rose (L.shows line.old).clock_faults (L.shows line.new).clock_faults) }

@@ -23,7 +23,8 @@ abbrev pub packed_of : ℕ → Bool → List Item → Result Unit PackFault
 packed_of pdu write items =
     if nat_lt 20 (length items) then Err TooMany else over_of (first_over pdu write 0 items)
 
--- the groups of these items, which follow the items of a group that isn't full yet; this group comes first
+-- the groups of the items in `group`, which isn't full yet, and of these items after them: items join `group` as long
+-- as they fit, and further groups follow
 abbrev pub groups_from : ℕ → Bool → List Item → List Item → List (List Item)
 groups_from pdu write group [] = group ∷ []
 groups_from pdu write group (item ∷ items) =
@@ -31,21 +32,21 @@ groups_from pdu write group (item ∷ items) =
     then groups_from pdu write (group ++ item ∷ []) items
     else group ∷ groups_from pdu write (item ∷ []) items
 
--- the groups of items, each of which fits a telegram alone; no items have no groups
+-- the groups of items, each of which fits a telegram alone; an empty list has no groups
 abbrev pub groups_of : ℕ → Bool → List Item → List (List Item)
 groups_of pdu write [] = []
 groups_of pdu write (item ∷ items) = groups_from pdu write (item ∷ []) items
 
--- the index at which each group ends in the list of all their items, which begins with index `from`
+-- for each group the index after its last item, in the list of all their items; the first item has index `from`
 abbrev pub ends_of : ℕ → List (List Item) → List ℕ
 ends_of from [] = []
 ends_of from (group ∷ groups) = (from + length group) ∷ ends_of (from + length group) groups
 
--- from this index on there are no ends
+-- from index `count` on the list has no end of a group: only 0, or nothing
 abbrev pub IsBlankAfter : ℕ → List ℕ → Type 0
 IsBlankAfter count ends = (k : ℕ) → count ≤ k → slice_index ends k ≡ 0
 
--- the pieces of a list, cut at these indices; it begins with index `from`
+-- the pieces of a list, cut at these indices; the first piece begins at index `from`
 abbrev pub cut_at : ℕ → List ℕ → List Item → List (List Item)
 cut_at from [] items = []
 cut_at from (end ∷ ends) items = between from end items ∷ cut_at end ends items
@@ -69,7 +70,7 @@ pub record AreGroups (pdu : ℕ) (write : Bool) (items : List Item) (groups : Li
   pub each : AllByRecursion (IsGroup pdu write) groups
   pub full : AreFull pdu write groups
 
--- lists of items are the list of groups exactly if they are the groups of the items
+-- if the items can be packed, `AreGroups` holds of what `groups_of` gives, and of nothing else
 abbrev pub GroupsAreExact : Type 0
 GroupsAreExact =
     (pdu : ℕ) (write : Bool) (items : List Item) (groups : List (List Item))

@@ -100,7 +100,7 @@ pub record CanBeAsked (pdu : ℕ) (write : Bool) (part : Item) : Type 0 where
   pub address : part.address < 2 ^ 24
   pub inside : range_end part ≤ 2 ^ 24
 
--- items are the list of parts exactly if they are the parts of the item
+-- `AreParts` holds of what `parts_of` gives, and of nothing else
 abbrev pub PartsAreExact : Type 0
 PartsAreExact =
     (item : Item) (pdu : ℕ) (write : Bool) (parts : List Item) → CanBeSplit item → 64 ≤ pdu

@@ -9,7 +9,7 @@ use Rattle.s7_symbol.specs.declared.kind.TagKind.{TagKind}
 use Rattle.s7_symbol.specs.declared.kind.TagKind.TheVariants as kind
 use Rattle.s7_symbol.specs.declared.tag.Tag.{Tag}
 
--- TYPE
+-- the text of a type, as TYPE in a line
 abbrev pub kind_text : TagKind → Text
 kind_text kind.Bool = codes "BOOL"
 kind_text kind.Int = codes "INT"
@@ -19,13 +19,13 @@ kind_text kind.S5Time = codes "S5TIME"
 kind_text (kind.Text most) = codes "STRING" ++ 91 ∷ decimal most ++ codes "]"
 kind_text kind.DateTime = codes "DATE_AND_TIME"
 
--- KEY
+-- the text of an area, as KEY in a line
 abbrev pub key_text : ℕ → ℕ → Text
 key_text area db =
     if area == data_blocks then codes "DB" ++ decimal db
     else (if area == inputs then codes "PE" else (if area == outputs then codes "PA" else codes "MK"))
 
--- START
+-- the text of an address, as START in a line
 abbrev pub start_text : Bool → ℕ → Text
 start_text is_bit address =
     if is_bit then decimal (address / 8) ++ 46 ∷ decimal (address % 8) else decimal (address / 8)

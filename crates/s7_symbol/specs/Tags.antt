@@ -65,17 +65,17 @@ abbrev pub text_kind : Option ℕ → Option TagKind
 text_kind None = None
 text_kind (Some most) = Some (kind.Text most)
 
--- the digits before `]`, after which nothing follows
+-- the type of a string whose number stands before a `]`, if nothing follows the `]`
 abbrev pub closed : Option (Text × Text) → Option TagKind
 closed None = None
 closed (Some parts) = if length parts.1 == 0 then text_kind (up_to 1 254 (number_of parts.0)) else None
 
--- `STRING` before `[`
+-- the type of a text with `STRING` before its `[`
 abbrev pub bracketed : Option (Text × Text) → Option TagKind
 bracketed None = None
 bracketed (Some parts) = if bytes_eq parts.0 (codes "STRING") then closed (parts_around 93 parts.1) else None
 
--- `STRING[n]`
+-- the type that `STRING[n]` names
 abbrev pub string_kind : Text → Option TagKind
 string_kind text = bracketed (parts_around 91 text)
 
@@ -118,7 +118,7 @@ item_at of key address = record {
 abbrev pub named : Text → Result Text TagFaultKind
 named text = if is_name text then Ok text else Err fault.Name
 
--- NAME TYPE KEY START
+-- the tag of a line NAME TYPE KEY START, or the line's fault
 abbrev pub tag_of : Text → Result Tag TagFaultKind
 tag_of text = do
   fields ← or_else fault.Fields (fields_of text)

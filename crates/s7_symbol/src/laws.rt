@@ -1,4 +1,4 @@
-//! Laws of values. They run nothing.
+//! Laws of values. They do nothing at run time.
 ghost use Rattle.s7_symbol.specs.TagLines.{TagsHaveLines};
 ghost use Rattle.s7_symbol.specs.Values.{ValuesAnswer, ValuesAreOne};
 

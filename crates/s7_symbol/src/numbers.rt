@@ -7,7 +7,7 @@ ghost use Rattle.s7_symbol.specs.Values.{Stands};
 use itoa::Buffer;
 use s7_text::{all_digits, value_of};
 
-/// Numbers from here on are not distinguished.
+/// Numbers from this one on are not distinguished.
 const BEYOND: u64 = 10_000_000_000;
 
 /// A whole number: its sign and its size.

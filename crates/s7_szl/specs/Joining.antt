@@ -52,12 +52,12 @@ abbrev pub with_each : (Joined → Piece → Joined) → Joined → List Piece �
 with_each step j [] = j
 with_each step j (p ∷ ps) = with_each step (step j p) ps
 
--- the first slices of an image; more follow each of them
+-- the first slices of an image; each says that more follow
 abbrev pub fronts_of : List (List ℕ) → List Piece
 fronts_of [] = []
 fronts_of (front ∷ fronts) = record { octets = front; more = true } ∷ fronts_of fronts
 
--- the slices of an image; more follow each of them but the last
+-- the slices of an image; each but the last says that more follow
 abbrev pub pieces_of : List (List ℕ) → List ℕ → List Piece
 pieces_of [] last = record { octets = last; more = false } ∷ []
 pieces_of (front ∷ fronts) last = record { octets = front; more = true } ∷ pieces_of fronts last

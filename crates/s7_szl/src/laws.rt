@@ -23,7 +23,8 @@ pub fn tables_are_exact()
         → length image ≤ 212 }
 {}
 
-/// A law: each field is read from the image of its list; so is each component that exists, and no other is.
+/// A law: each field is read from the image of its list. Each component that exists is read from the image of its list,
+/// and no other component is.
 pub fn written_is_read()
     ensures mode { (running : Bool) → option_and_then mode_of (image_of 0x0424 0 running) ≡ Some running }
     ensures order_code { (running : Bool)
@@ -38,9 +39,9 @@ pub fn written_is_read()
         → option_and_then (component_of index) (image_of 0x001C 0 running) ≡ None }
 {}
 
-/// A law: slices are appended to the octets of a join that isn't at fault, and give one image however that was cut,
-/// if they fit the room and only the last may be empty. Slices of a status list do so if the image adds up, as the
-/// image of each list does.
+/// A law about slices of which all fit the room and only the last may be empty: a join that isn't at fault appends them
+/// to its octets and gives one image, however it was cut. With slices of a status list it does so if the image adds up,
+/// as the image of each list does.
 pub fn pieces_join()
     ensures plain { (j : Joined) (fronts : List (List ℕ)) (last : List ℕ) → is_bad j.state ≡ false
         → AllByRecursion (λ front. 0 < length front) fronts

@@ -36,6 +36,6 @@ module _ {R : Type 0} where
   abbrev pub replay : {O : Type 0} → (O → Entry R → O) → O → List (Entry R) → O
   replay after o h = fold after o h
 
-  -- the history h', which is h and then one entry of this caller, or none
+  -- h' is h, or h and one more entry, of this caller
   abbrev pub AddedBy : ℕ → List (Entry R) → List (Entry R) → Type 0
   AddedBy c h h' = (es : List (Entry R)) × (h' ≡ h ++ es) × Each (λ e. e.caller ≡ c) es × (length es ≤ 1)

@@ -5,8 +5,8 @@ ghost use Rattle.s7_turn.specs.Histories.{entry, replay};
 
 /// A state that requests change one by one, with the history of the requests that it carried out.
 ///
-/// A hall returns a machine whose state is the replay of its history. So an impl puts everything into `State` that is
-/// to be known then.
+/// A hall returns a machine whose state is the replay of its history. So an impl puts into `State` all that is to be
+/// known of the machine that is returned.
 pub trait Machine {
     /// What callers ask.
     type Request;

@@ -28,7 +28,7 @@ pub enum Stage<R> {
     Entered(u64, LinkedList<Entry<R>>),
     /// It has put the machine back, with this history.
     Gave(u64, LinkedList<Entry<R>>),
-    /// It was joined of two seats, and hasn't compared yet what the two have seen.
+    /// It was made of two seats that were joined, and what the two have seen wasn't compared yet.
     Joined(Note<R>, Note<R>),
 }
 

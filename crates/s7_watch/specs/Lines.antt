@@ -36,7 +36,7 @@ failed_line round code = round_text round ++ codes " failed " ++ encode_upper (f
 abbrev pub line_if_new : ℕ → Tag → Option Sample → Sample → Text
 line_if_new round tag last sample = if is_new last sample then sample_line round tag sample else []
 
--- the line of each of these samples that is new; the tags have these last samples
+-- the lines of those of these samples that are new; `lasts` are the samples that the tags had before
 unfoldable pub new_lines : ℕ → List Tag → List (Option Sample) → List Sample → Text
 new_lines round [] lasts samples = []
 new_lines round (tag ∷ tags) [] samples = []
@@ -54,12 +54,12 @@ nothing_seen tags = map unseen tags
 abbrev pub seen_now : Sample → Option Sample
 seen_now sample = Some sample
 
--- the last samples of all tags, after the tags from this index on got these samples
+-- the last samples of all tags, once these samples are those of the tags from this index on
 abbrev pub with_samples : List (Option Sample) → ℕ → List Sample → List (Option Sample)
 with_samples lasts first samples =
     take first lasts ++ (map seen_now samples ++ drop (first + length samples) lasts)
 
--- THE LINES of the samples of a read, where these are the last samples of all tags
+-- THE LINES of the samples of a read, given the samples that all tags had before
 abbrev pub look_lines : Look → List (Option Sample) → List Sample → Text
 look_lines look lasts samples = new_lines look.round look.tags (take most_tags (drop look.first lasts)) samples
 

@@ -1,4 +1,5 @@
--- The reads of a watcher: rounds over all tags, twenty tags a read in the order of the tags, the last with the rest.
+-- The reads of a watcher. In each round it reads all tags in their order, twenty tags in each read, and the rest in the
+-- last one.
 use Rattle.std.specs.Prelude.{ℕ, zero, suc, ◌+◌, ◌-◌, ◌*◌, List, [], ◌++◌, length, take, drop, map}
 use Rattle.std.specs.Int.{div_ceil}
 use Rattle.std.specs.List.{range_with_len}
@@ -21,7 +22,8 @@ pub record Look : Type 0 where
 abbrev pub look_count : ℕ → ℕ
 look_count tags = div_ceil tags most_tags
 
--- the elements of a list at the indices of those tags that the read of this number has; reads are numbered from 0
+-- the elements of a list that belong to the tags of one read: `number` is the number of the read, and the first read
+-- has number 0
 abbrev pub part : {A : Type 0} → ℕ → List A → List A
 part number all = take most_tags (drop (most_tags * number) all)
 
@@ -34,7 +36,7 @@ abbrev pub looks_after : List Tag → ℕ → ℕ → List Look
 looks_after tags round number =
     map (look_at tags round) (range_with_len number (look_count (length tags) - number))
 
--- the reads of this number of rounds: those of the first, from the read of this number on, and all of the others
+-- the reads of this number of rounds: of the first round those from the read of this number on, and of the others all
 unfoldable pub looks_from : List Tag → ℕ → ℕ → ℕ → List Look
 looks_from tags round number zero = []
 looks_from tags round number (suc more) = looks_after tags round number ++ looks_from tags (round + 1) 0 more

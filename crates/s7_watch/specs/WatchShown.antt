@@ -11,7 +11,7 @@ use Rattle.s7_watch.specs.declared.watched.Watched.{Watched}
 abbrev pub tag_in : Watched → Tag
 tag_in w = w.tag
 
--- the sample of these octets, once there is a code
+-- the sample with these octets and this code
 abbrev pub sample_with : List ℕ → ℕ → Sample
 sample_with octets code = record { code = code; octets = octets }
 

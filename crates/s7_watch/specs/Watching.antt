@@ -15,7 +15,7 @@ pub record WatchTold : Type 0 where
   pub lasts : List (Option Sample)
   pub out : Option Look
 
--- before the first round
+-- a watcher before its first round
 abbrev pub fresh : List Tag → ℕ → WatchTold
 fresh tags rounds = record { ahead = looks tags rounds; lasts = nothing_seen tags; out = None }
 

@@ -1,4 +1,4 @@
-//! Laws of watchers in rigs. They run nothing.
+//! Laws of watchers in rigs. They do nothing at run time.
 ghost use Rattle.s7_watched.specs.Watched.{RigsShowWatches, WatchesAreSeen};
 
 use s7_rig::rigs_follow;

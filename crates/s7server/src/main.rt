@@ -61,7 +61,7 @@ where
     Ok(end.status)
 }
 
-/// The words of the command line. If one of them isn't UTF-8 there are none, and no words are no command.
+/// The words of the command line. If one of them isn't UTF-8, the list is empty, and an empty list names no command.
 fn own_words<R: Env + AllocGlobal>(rt: &R) -> Result<Vec<String>, AllocError> {
     match env::args(rt) {
         Ok(words) => words.skip(1).collect(rt.alloc()),
@@ -75,8 +75,8 @@ fn lent_words(alloc: Global, owned: &[String]) -> Result<Vec<&str>, AllocError> 
     owned.iter().map(|word| word.as_str()).collect(alloc)
 }
 
-/// The exit code of this status. Without a status memory ran out: prints a line that says so, and ignores a failure of
-/// the output.
+/// The exit code of this status. If there is no status, memory ran out; then prints a line that says so, and ignores a
+/// failure of the output.
 fn ended<O: Out>(status: Result<u8, Memory>, out: &mut O) -> ExitCode {
     match status {
         Ok(status) => ExitCode::from(status),

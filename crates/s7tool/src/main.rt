@@ -41,7 +41,7 @@ where
     Ok(end.status)
 }
 
-/// The words of the command line. If one of them isn't UTF-8 there are none, and no words are no command.
+/// The words of the command line. If one of them isn't UTF-8, the list is empty, and an empty list names no command.
 fn own_words<R: Env + AllocGlobal>(rt: &R) -> Result<Vec<String>, AllocError> {
     match env::args(rt) {
         Ok(words) => words.skip(1).collect(rt.alloc()),

@@ -56,7 +56,7 @@ impl Codes {
         self.len
     }
 
-    /// The codes, followed by 0 up to twenty.
+    /// Twenty codes: those of the list, and 0 after them.
     pub(crate) fn places(&self) -> [u8; 20]
         ensures codes { take (length self.now) result ≡ self.now }
         ensures blank { (k : ℕ) → length self.now ≤ k → slice_index result k ≡ 0 }

@@ -47,8 +47,8 @@ pub(crate) fn octets_of(job: &Job) -> &[u8]
     }
 }
 
-/// The error number if the answer refuses: the one item, if `alone`, or else the whole telegram. `None` if it
-/// doesn't refuse.
+/// The error number of an answer that refuses the whole telegram, or, if `alone` is true, its one item. `None` for any
+/// other answer.
 pub(crate) fn refusal_of(alone: bool, answer: &Answer<'_>) -> Option<u32>
     ensures { (write : Bool) (items : List Item) (x : spelled.Answer) → TellsFor write items answer.now x
         → result ≡ refusal_by alone x }

@@ -288,7 +288,7 @@ fn answers_about(subject: Subject, params: &UserParams) -> bool
         && params.more <= 1
 }
 
-/// Whether the answer has the sequence octet that is expected, if one is.
+/// Whether the answer has the sequence octet that is expected, or none is expected.
 fn is_under(asked: Option<u8>, octet: u8) -> bool
     ensures { result ≡ is_under asked octet }
 {

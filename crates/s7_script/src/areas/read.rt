@@ -156,7 +156,7 @@ impl State {
         Ok(())
     }
 
-    /// Whether no area of this name and this length may be added to those that are complete.
+    /// Whether an area of this name can't have this length, or the areas would have too many octets with it.
     fn is_wrong_size(&self, key: AreaKey, size: u64) -> bool
         ensures { result ≡ is_wrong_size self.now.areas key size }
     {

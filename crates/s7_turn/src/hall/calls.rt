@@ -59,8 +59,8 @@ fn machine_of<M>(mut slots: Vec<Option<Box<M>>>) -> M
 }
 
 impl<M: Machine> Hall<M> {
-    /// A hall with this machine, and its first seat. That seat's caller is 0, and it hands out the numbers of the
-    /// others, from 1. Hands the machine back with `Memory` if an allocation fails.
+    /// A hall with this machine, and its first seat. That seat's caller is 0, and it hands out the numbers of the other
+    /// callers, from 1 on. Hands the machine back with `Memory` if an allocation fails.
     pub fn new(alloc: Global, machine: M) -> Result<(Hall<M>, Seat<M>), (Memory, M)>
         requires new { (M.history machine ≡ []) × (M.state machine ≡ M.opening machine) }
         requires holds { M.holds machine }
