@@ -14,7 +14,7 @@ use std::alloc::{AllocError, Global};
 /// What the words of the relay say, `WINDOWS [--host HOST] [--port N] [--polls N] [--journal N]`; `None` if they are
 /// usage. `RelayWords` states the ranges and defaults.
 ///
-/// The first word is the name of the program, which is passed over. The other words are parsed as `read_server_words`
+/// The first word is the name of the program, which is skipped. The other words are parsed as `read_server_words`
 /// states. A number is one or more decimal digits; leading zeros are allowed, and so is a `+` before them. A number out
 /// of its range is usage.
 ///

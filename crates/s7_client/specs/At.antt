@@ -38,7 +38,7 @@ pub record IsReading (r : Reader) : Type 0 where
   pub going : ended_with r ≡ None
   pub some : ∥ ((b : List ℕ) × HasRead r b) ∥₁
 
--- The client is at this position of the course of the job that started there.
+-- The client is at this position of the course of the job that started at `origin`.
 pub record IsAt (origin : Origin) (course : Course) (t : Talk) (u : UnderWay) : Type 0 where
   pub job : u.running.job ≡ origin.job
   pub size : size_in t ≡ course.size

@@ -1,4 +1,4 @@
--- What the code of a job tells of its link, and what a connect leaves that succeeds.
+-- What the code of a job says about its link, and what a connect that succeeds leaves.
 use Rattle.std.specs.Prelude.{◌≡◌, ◌≢◌, ◌⊎◌, ℕ, ◌<◌, ◌≤◌, ◌==◌, ◌||◌, max, Bool, false, List, [], None, Some}
 use Rattle.s7_outer.specs.Shown.{Shown}
 use Rattle.s7_outer.specs.Count.{RoseExactly}
@@ -36,7 +36,7 @@ pub record TellsOfLink (polls code : ℕ) (link link' : Shown) : Type 0 where
   pub patient : code ≢ timed_out → (times : ℕ) × (times < polls) × RoseExactly times link.waits link'.waits
   pub unended : code ≢ link_ended → link'.has_ended ≡ link.has_ended
 
--- CODES TELL OF LINKS: the code of a job that was carried out tells what became of the counts of its link in it.
+-- CODES TELL OF LINKS: the code of a job that was carried out says what the job did to the counts of its link.
 abbrev pub CodesTellOfLinks : Type 0
 CodesTellOfLinks =
     (config : Config) (before : Between) (asked : Job) (link link' : Shown) (told : JobResult) (after : Between)

@@ -17,14 +17,14 @@ abbrev pub MetNotYetOnce : Shown → Shown → Type 0
 MetNotYetOnce link link' =
     (link'.faults ≡ link.faults) × RoseExactly 1 link.waits link'.waits × (link'.has_ended ≡ link.has_ended)
 
--- The link failed once, and the code is one of the two for that; or it didn't fail. So no failure is ignored, and
--- no failed call is tried again.
+-- The link failed once, and the code says so; or it didn't fail. So no failure is ignored, and no failed call is tried
+-- again.
 abbrev pub FailedAsTold : ℕ → Shown → Shown → Type 0
 FailedAsTold code link link' =
     (link'.faults ≡ link.faults)
     ⊎ (RoseExactly 1 link.faults link'.faults × ((code ≡ send_failed) ⊎ (code ≡ receive_failed)))
 
--- The stream ended only if the code is the one for that.
+-- The stream ended only if the code says so.
 abbrev pub EndedAsTold : ℕ → Shown → Shown → Type 0
 EndedAsTold code link link' = (link'.has_ended ≡ link.has_ended) ⊎ (code ≡ link_ended)
 
@@ -32,7 +32,8 @@ EndedAsTold code link link' = (link'.has_ended ≡ link.has_ended) ⊎ (code ≡
 abbrev pub MetAsTold : ℕ → Shown → Shown → Type 0
 MetAsTold code link link' = FailedAsTold code link link' × EndedAsTold code link link'
 
--- The link wasn't ready fewer than `most` times; or it was that often, and the code is the one for that.
+-- The number of times at which the link wasn't ready is below `most`; or it is `most`, and the code says that the job
+-- timed out.
 abbrev pub WaitedAsTold : ℕ → ℕ → Shown → Shown → Type 0
 WaitedAsTold most code link link' =
     (times : ℕ) × RoseExactly times link.waits link'.waits × ((times < most) ⊎ ((times ≡ most) × (code ≡ timed_out)))

@@ -65,7 +65,7 @@ origin_at c job = record {
   sequence = sequence_of c;
 }
 
--- The job of the client started there, and has used and transmitted these octets since then.
+-- The job of the client started at `origin`, and has used and transmitted these octets since then.
 pub record StandsFor (c : Connection) (origin : Origin) (b written : List ℕ) : Type 0 where
   pub under_way : UnderWay
   pub is : c.job ≡ Some under_way
@@ -126,7 +126,7 @@ IsDoneBy origin link link' kept end carried b written waited =
     HasCause origin link link' kept end carried b written
     ⊎ IsByPatience origin link link' kept end carried b written waited
 
--- the result of a job that started there, and has used and transmitted these octets
+-- the result of a job that started at `origin`, and has used and transmitted these octets
 pub record IsDone (origin : Origin) (link link' : Shown) (old new : Connection) (told : JobResult)
     (b written : List ℕ) : Type 0 where
   pub end : End

@@ -107,7 +107,7 @@ pub record StillWaits (old : Connection) (link : Shown) (c : Connection) (link' 
   pub stood : (origin : Origin) (b w : List ℕ) → StandsFor old origin b w
       → StandsFor c origin (b ++ moves.used) (w ++ moves.written)
 
--- the result of a job, which had used and transmitted these octets before
+-- the result of a job that had used and transmitted these octets before
 pub record IsOverNow (origin : Origin) (link link' : Shown) (old new : Connection) (told : JobResult)
     (b written : List ℕ) : Type 0 where
   pub end : End

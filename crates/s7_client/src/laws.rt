@@ -34,9 +34,9 @@ pub fn octets_end_otherwise()
     ensures { OctetsEndOtherwise }
 {}
 
-/// A law: the code of a job that was carried out tells what became of its link. The link failed exactly once if the
-/// code is 00090000 or 000A0000, and otherwise not at all. It wasn't ready as often as allowed if the code is 02000000,
-/// and otherwise less often. Its stream ended only if the code is 00020000.
+/// A law: the code of a job that was carried out says what became of its link. The link failed exactly once if the code
+/// is 00090000 or 000A0000, and otherwise not at all. It wasn't ready as often as allowed if the code is 02000000, and
+/// otherwise less often. Its stream ended only if the code is 00020000.
 pub fn codes_tell_of_links()
     ensures { CodesTellOfLinks }
 {}

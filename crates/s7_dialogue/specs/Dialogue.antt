@@ -39,7 +39,7 @@ pub record End : Type 0 where
   pub code : ℕ
   -- the octets that were read
   pub octets : List ℕ
-  -- the return codes of the items of a job with several
+  -- the return codes of the items of a job with several items
   pub codes : List ℕ
   pub leaves : Leaves
 
@@ -288,8 +288,8 @@ abbrev pub last_answer : Option Answer → List (Option Answer) → Option Answe
 last_answer answer [] = answer
 last_answer answer (next ∷ answers) = last_answer next answers
 
--- User data about a subject, with these octets, and then the further octets of its answer, piece by piece (Snap7
--- 1.4 sources, s7_types.h: TReqFunReadSZLFirst, TReqFunReadSZLNext).
+-- The questions about a subject: user data with these octets, and then questions for the further octets of the answer,
+-- piece by piece (Snap7 1.4 sources, s7_types.h: TReqFunReadSZLFirst, TReqFunReadSZLNext).
 abbrev pub next_piece : Subject → List ℕ → List (Option Answer) → Option Question
 next_piece subject octets [] = Some (asks subject octets)
 next_piece subject octets (answer ∷ answers) =

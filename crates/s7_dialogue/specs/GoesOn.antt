@@ -207,7 +207,7 @@ rows_out question (Some number) = record { question = question; number = number;
 abbrev pub IsAnswered : Row → Type 0
 IsAnswered row = IsSome row.answer
 
--- the octets kept of the answers so far: all of them, or in parts those that were read
+-- the octets kept of the answers so far: all of them; while parts of a data block are asked for, those that were read
 abbrev pub octets_kept : Ask → List (Option Answer) → List ℕ
 octets_kept (ask.Part block place) answers = told_for block.value answers
 octets_kept _ answers = octets_brought answers
@@ -268,7 +268,7 @@ ConductsAt config granted rows told job found codes (stage.Single s) = AsksSingl
 ConductsAt config granted rows told job found codes stage.Leaving = ⊥
 ConductsAt config granted rows told job found codes (stage.Over code leaves) = ⊥
 
--- no telegram is unanswered, and this refusal is the first one, or nothing is left to ask
+-- no telegram is unanswered; `refused` is the first refusal, or there is none and nothing is left to ask
 abbrev pub IsDone : Stage → Option Refused → Type 0
 IsDone stage.Opening refused = ⊥
 IsDone (stage.Asking a) refused =

@@ -267,7 +267,7 @@ pub record IsGrant (g : Grant) : Type 0 where
   pub some : 1 ≤ g.jobs
   pub few : g.jobs ≤ 8
 
--- if a grant is left, it is acceptable
+-- if the job leaves the client connected with a new grant, the grant is acceptable
 abbrev pub IsGoodLeave : Leaves → Type 0
 IsGoodLeave leaving.AsItWas = Unit {0}
 IsGoodLeave (leaving.Connected granted) = IsGrant granted
@@ -289,7 +289,7 @@ LeavesLink (leaving.Connected granted) = Unit {0}
 LeavesLink leaving.Disconnected = ⊥
 LeavesLink leaving.Closed = ⊥
 
--- the job is over and leaves the link to the next one
+-- the job is over and leaves the link to the next job
 abbrev pub LeavesOpen : Stage → Type 0
 LeavesOpen stage.Opening = ⊥
 LeavesOpen (stage.Asking a) = ⊥

@@ -29,12 +29,12 @@ pub record SeatTold (Seen : Type 0) : Type 0 where
   pub next : Option ℕ
   pub seen : Seen
 
--- the seat represents its caller alone, which has made no call
+-- a seat represents its caller alone, which has made no call
 pub record IsNew {Seen : Type 0} (terms : Terms Seen) (seat : SeatTold Seen) : Type 0 where
   pub alone : seat.callers ≡ seat.number ∷ []
   pub silent : terms.silent seat.number seat.seen
 
--- it is the first seat: it represents caller 0 alone, which has made no call, and hands out the numbers from 1 on
+-- a seat is the first one: it represents caller 0 alone, which has made no call, and hands out the numbers from 1 on
 pub record IsFirst {Seen : Type 0} (terms : Terms Seen) (seat : SeatTold Seen) : Type 0 where
   pub alone : seat.callers ≡ 0 ∷ []
   pub silent : terms.silent 0 seat.seen

@@ -10,7 +10,7 @@ use Rattle.s7_listener.specs.Benches.{Terms}
 use Rattle.s7_listener.specs.Hosted.{IsServedAs}
 use Rattle.s7_listener.specs.Served.{ServedTold}
 
--- if no call is of one of some callers, no call is of this one of them
+-- if none of some callers made a call, this caller, which is one of them, made none
 not_of : (callers : List ℕ) (number : ℕ) (later : History) → has callers number ≡ true → NoneBy callers later
     → NoneBy (number ∷ []) later
 not_of callers number later stands none =

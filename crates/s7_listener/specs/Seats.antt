@@ -1,4 +1,4 @@
--- How seats go on by the calls that are made in their name.
+-- What the calls in a seat's name change of the seat, and what stays.
 use Rattle.std.specs.Prelude.{◌≡◌, ℕ, ◌≤◌, length}
 use Rattle.s7_turn.specs.declared.machine.Machine.{Ghosts}
 use Rattle.s7_turn.specs.declared.hall.Seat.{Seat}

@@ -23,7 +23,7 @@ use Rattle.s7_partner_run.specs.Sides.{IsSide}
 abbrev pub most_turns : ℕ
 most_turns = 18446744073709551615
 
--- all of its blocks were acknowledged, and it isn't closed
+-- all blocks of a partner were acknowledged, and it isn't closed
 abbrev pub has_sent_all : Post → Bool
 has_sent_all p = is_acknowledged p && not (is_closed p)
 
@@ -53,14 +53,15 @@ pub record TellsThen (old : Post) (link : Shown) (out : OutShown) (new : Post) (
   pub turn : IsTurn middle link'' new link' result
   pub so : ends out'' result
 
--- the output failed at the line of its news
+-- the output failed at the line of a partner's news
 pub record BreaksOff (out' : OutShown) (out'' : OutShown) (result : Result (Option News) Memory) : Type 0 where
   pub news : News
   pub told : result ≡ Ok (Some news)
   pub front : AppendsPrefix out''.text out'.text (active_text news)
   pub failed : Rose out''.faults out'.faults
 
--- an allocation failed, to hand a block out or for the line of its news, which wasn't printed
+-- an allocation failed: for a block that was to be handed out, or for the line of a partner's news, which wasn't
+-- printed
 pub record LacksMemory (out' : OutShown) (out'' : OutShown) (result : Result (Option News) Memory) : Type 0 where
   pub wanting : ((memory : Memory) × (result ≡ Err memory)) ⊎ ((news : News) × (result ≡ Ok (Some news)))
   pub same : out'.text ≡ out''.text
@@ -86,7 +87,7 @@ TalksOnce old link out new link' out' (Err end.Output) =
 TalksOnce old link out new link' out' (Err end.Memory) =
     (result : Result (Option News) Memory) × IsTurn old link new link' result × LacksMemory out' out result
 
--- HOW IT TALKED over a link
+-- HOW A PARTNER TALKED over a link
 abbrev pub Talked : Post → Shown → OutShown → Post → Shown → OutShown → TalkEnd → Type 0
 Talked old link out new link' out' end.Sent = Tells most_turns old link out new link' out' × (has_sent_all new ≡ true)
 Talked old link out new link' out' end.Unsent =
@@ -96,7 +97,7 @@ Talked old link out new link' out' end.Memory = TellsThen old link out new link'
 
 -- ---- the result
 
--- its last news has the number with which it closed
+-- the last news of a partner has the error number with which the partner closed
 pub record EndsClosed (p : Post) (told : List News) : Type 0 where
   pub front : List News
   pub code : ℕ

@@ -26,7 +26,7 @@ pub record State : Type 0 where
   pub passive : Post
   -- the octets on their way in either direction
   pub pipes : PipesHeld
-  -- the news of both so far
+  -- the news of both partners so far
   pub events : List PairEvent
 
 abbrev pub state_of : Pair → State
@@ -90,7 +90,7 @@ are_done s = is_done s.active && is_done s.passive
 abbrev pub is_over : State → Bool
 is_over s = is_closed s.active || (is_closed s.passive || are_done s)
 
--- ROUNDS of both, at most this number; they end when both are done or one is closed
+-- ROUNDS of both partners, at most this number; they end when both are done or one is closed
 unfoldable pub Rounds : ℕ → State → State → Type 0
 Rounds zero old new = new ≡ old
 Rounds (suc more) old new =

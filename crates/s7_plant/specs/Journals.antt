@@ -49,7 +49,7 @@ calls_of entries = map (λ (e : Entry). entry e.link e.ask) entries
 abbrev pub after_call : State → Call Ask → State
 after_call s call = after s call.request
 
--- read as calls, the entries lead to the same state
+-- the entries lead to one state, whether they are read as entries or as calls of a history
 abbrev pub CallsLeadTheSame : Type 0
 CallsLeadTheSame =
     (s : State) (entries : List Entry)

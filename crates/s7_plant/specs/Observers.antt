@@ -15,11 +15,11 @@ pub record Seen : Type 0 where
 abbrev pub seen_with : ℕ → ℕ → ℕ → List Event → Seen
 seen_with mask depth count tail = record { mask = mask; depth = depth; count = count; tail = tail }
 
--- the same mask and depth, with nothing counted
+-- an observer with the same mask and depth that has counted nothing
 abbrev pub fresh : Seen → Seen
 fresh s = seen_with s.mask s.depth 0 []
 
--- nothing was counted yet
+-- an observer has counted nothing yet
 abbrev pub IsFresh : Seen → Type 0
 IsFresh s = s ≡ fresh s
 

@@ -22,7 +22,7 @@ no_blocks = record { images = []; limit = 1024 }
 abbrev pub opens_with : Memory → Store → State
 opens_with m blocks = record { memory = m; blocks = blocks; offset = pos 0; running = true }
 
--- the same without blocks
+-- a plant with this memory and without blocks at its beginning
 abbrev pub begins_with : Memory → State
 begins_with m = opens_with m no_blocks
 

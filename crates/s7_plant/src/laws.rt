@@ -14,7 +14,7 @@ pub fn replay_goes_on()
     ensures { GoesOn }
 {}
 
-/// A law: a journal's entries, read as a history of calls, lead to the same state.
+/// A law: a journal's entries lead to one state, whether they are read as entries or as calls of a history.
 pub fn calls_lead_the_same()
     ensures { CallsLeadTheSame }
 {}

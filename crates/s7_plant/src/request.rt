@@ -159,7 +159,7 @@ impl Request {
         }
     }
 
-    /// The same copy, allocated here. Returns `Memory` if the allocation fails.
+    /// If the request stores a block, a copy of its image, allocated here. Returns `Memory` if the allocation fails.
     pub(crate) fn copy_image(&self, alloc: Global) -> Result<Option<Octets>, Memory>
         ensures { IfOk result (λ copy. (kind number : ℕ) (image : List ℕ) (spare : Held)
             → self.now ≡ Request.Insert kind number image spare → copy ≡ Some image) }

@@ -17,11 +17,11 @@ terms_in w = record { near = w.near; length = w.length; far = w.far; offset = w.
 abbrev pub near_of : Terms → AreaKey
 near_of terms = terms.near
 
--- the lines that aren't passed over
+-- the lines that aren't skipped
 abbrev pub spoken : List Text → List Text
 spoken texts = filter (λ text. not (is_passed text)) texts
 
--- THESE LINES STATE THESE WINDOWS: each line that isn't passed over states one, in order, and their near areas differ
+-- THESE LINES STATE THESE WINDOWS: each line that isn't skipped states one, in order, and their near areas differ
 pub record Say (texts : List Text) (windows : List Terms) : Type 0 where
   pub each : map line_said (spoken texts) ≡ map Ok windows
   pub apart : IsDistinct same_key (map near_of windows)
@@ -72,6 +72,6 @@ abbrev pub ok_list : Result Terms WindowKind → List Terms
 ok_list (Ok terms) = terms ∷ []
 ok_list (Err kind) = []
 
--- the window that a line states, none if the line is passed over
+-- the window that a line states, none if the line is skipped
 abbrev pub said_by : Text → List Terms
 said_by text = if is_passed text then [] else ok_list (line_said text)

@@ -15,13 +15,13 @@ use std::alloc::Global;
 
 /// The windows of a file, or the first wrong line if there is one.
 ///
-/// Each line ends with LF, before which a CR is passed over; the last LF may be missing. Empty lines and lines that
-/// begin with `#` are passed over. Every other line is `KEY LENGTH = KEY OFFSET`, with one space between fields. The
-/// fields are the near area, the number of its octets, `=`, the far area, and the octet of the far area at which the
-/// near area begins. KEY is `PE`, `PA`, `MK`, or `DB` and the number of the data block from 1 to 65,535. LENGTH is at
-/// least 1, OFFSET is at least 0, and their sum is at most 2,097,152. Numbers are decimal, with at most ten digits. No
-/// two lines have the same near area. What is wrong with a line is found in the order of `WindowKind`. Returns `Memory`
-/// if an allocation fails.
+/// Each line ends with LF; a CR right before the LF is skipped; the last LF may be missing. Empty lines and lines that
+/// begin with `#` are skipped. Every other line is `KEY LENGTH = KEY OFFSET`, with one space between fields. The fields
+/// are the near area, the number of its octets, `=`, the far area, and the octet of the far area at which the near area
+/// begins. KEY is `PE`, `PA`, `MK`, or `DB` and the number of the data block from 1 to 65,535. LENGTH is at least 1,
+/// OFFSET is at least 0, and their sum is at most 2,097,152. Numbers are decimal, with at most ten digits. No two lines
+/// have the same near area. What is wrong with a line is found in the order of `WindowKind`. Returns `Memory` if an
+/// allocation fails.
 pub fn read_windows(alloc: Global, text: &[u8]) -> Result<Windows, WindowFault>
     ensures ok { IfOk result (SaysWindows text.now) }
     ensures err { IfErr result (SaysFault text.now) }
@@ -40,7 +40,7 @@ pub fn read_windows(alloc: Global, text: &[u8]) -> Result<Windows, WindowFault>
     Ok(Windows::of_vec(found))
 }
 
-/// Appends the window of a line, unless the line is passed over.
+/// Appends the window of a line, unless the line is skipped.
 fn take_line(text: &[u8], found: &mut Vec<Window>) -> Result<(), WindowKind>
     ensures ok { OnOk result (Adds (map terms_in found.old.items) text.now (map terms_in found.new.items)) }
     ensures err { IfErr result (FailsLine (map terms_in found.old.items) text.now) }

@@ -29,7 +29,7 @@ data_block m number = area_octets m (record { area = data_blocks; number = numbe
 abbrev pub IsBlock : Memory → ℕ → Type 0
 IsBlock m number = (number < 65536) × IsSome (data_block m number)
 
--- they have it, and its octets fit an upload
+-- the areas have the data block of this number, a number of two octets, and its octets fit an upload
 abbrev pub HasBlock : Memory → ℕ → Type 0
 HasBlock m number = (number < 65536) × MatchOption (data_block m number) ⊥ (λ octets. length octets ≤ 65536)
 

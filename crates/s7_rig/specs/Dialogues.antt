@@ -96,7 +96,8 @@ pub record IsJobOver (first : LinkState) (origin : Origin) (pdu : ℕ) (heard se
   pub replies : AreReplies (entered first (b ++ used) (js ++ verdicts))
   pub owed_is : owed first (b ++ used) (js ++ verdicts) ≡ (owed first b js ++ heard) ++ behind
 
--- Then both are between two messages again, and a read that succeeded read what its entries read.
+-- After such a job client and session are between two messages again, and a read that succeeded read what its entries
+-- read.
 pub record IsJobSettled (first : LinkState) (origin : Origin) (pdu : ℕ) (heard sent : List ℕ) (end : End)
     (b used : List ℕ) (js verdicts : List Verdict) (behind : List ℕ) : Type 0 where
   pub all_used : used ≡ sent
@@ -123,7 +124,7 @@ pub record IsConnectOver (guard : Option Guard) (origin : Origin) (heard sent : 
   pub met : (past (first_link guard) used verdicts).verdicts ≡ []
   pub owed_is : owed (first_link guard) used verdicts ≡ heard ++ behind
 
--- Then it succeeded, and both are between two messages, with the PDU that was asked for.
+-- Such a connect succeeded, and client and session are between two messages, with the PDU that was asked for.
 pub record IsConnectSettled (guard : Option Guard) (origin : Origin) (heard sent : List ℕ) (end : End)
     (used : List ℕ) (verdicts : List Verdict) (behind : List ℕ) : Type 0 where
   pub grant : Grant

@@ -268,8 +268,9 @@ IsTold pdu (inserts image call) answer new =
     (λ right reply. answer ≡ control_heard reply)
 IsTold pdu _ answer new = ⊥
 
--- The same, given the verdicts for the question itself. If one of them says that the history was full or the clock
--- failed, the question is refused and nothing is entered.
+-- The answer to a question and what was entered for it, given the verdicts for the question itself. If one of them says
+-- that the history was full or the clock failed, the question is refused and nothing is entered; otherwise `IsTold`
+-- holds.
 pub data HasTold (pdu : ℕ) (own : List Verdict) (question : Question) (answer : Answer) (new : List (Ask × Said))
     : Type 0 where
   is_refused : (error : ℕ) → IsUndone own error → new ≡ [] → answer ≡ refuses error

@@ -42,9 +42,10 @@ pub record JobsAreSettled : Type 0 where
       → IsConnectOver guard origin heard sent end carried used verdicts behind
       → IsConnectSettled guard origin heard sent end used verdicts behind
 
--- SUCH A JOB SUCCEEDS IF IT CAN and the session is a link's on a book that began with this memory. Its entries are the
--- link's own calls in the history, after the earlier ones. The history wasn't full and the clock didn't fail for any
--- telegram of the job. If the job needs a right, all its entries have it.
+-- JOBS SUCCEED IF THEY CAN. Octets ended a job that is no connect, and the session is a link's on a book that began
+-- with this memory. The job's entries are the link's own calls in the history, after the earlier ones. The history
+-- wasn't full and the clock didn't fail for any telegram of the job. If the job needs a right, all its entries have it.
+-- Then the job has code 0 if it can succeed.
 pub record JobsComeOff : Type 0 where
   pub comes_off : (opening : Memory) (history : History) (link : ℕ) (right : Bool) (earlier mine : List Entry)
       (first : LinkState) (origin : Origin) (pdu : ℕ) (heard sent : List ℕ) (end : End) (carried b used : List ℕ)

@@ -35,7 +35,8 @@ pub record IsLegalPost (opening : Memory) (limit pdu : ℕ) (history : History) 
   -- the history has these calls, and no others of this link
   pub legal : IsLegalFor (begins_with opening) limit history p.link mets (Some moment)
       (entry_count p.session) (newest p.session)
-  -- a session that isn't closed still lives, the clock never failed, and an allocation failed for no telegram
+  -- if the session isn't closed, nothing has ended its link; the clock never failed, and an allocation failed for no
+  -- telegram
   pub lives : closed_with p.session ≡ None
       → (past (first_link opening.guard) used (verdicts_of mets)).standing ≡ lives
   pub clock : clock_failures (verdicts_of mets) ≡ 0

@@ -27,8 +27,8 @@ pub record IsNegotiated (first : LinkState) (b : List ℕ) (js : List Verdict) (
 -- A session between two messages answers what a client asks, with an answer to that question. If the question awaits a
 -- job of the server's in a download, the server has sent that job before.
 pub record QuestionsAreHeard : Type 0 where
-  -- a question of a job of a connected client, if the session's link holds what the question needs and lives after it,
-  -- whichever state gives the reply; for questions about blocks, whichever state of a plant
+  -- a question of a job of a connected client, if the session's link holds what the question needs and isn't ended by
+  -- it, whichever state gives the reply; for questions about blocks, whichever state of a plant
   pub asked : (origin : Origin) (granted : Grant) (answers : List (Option Answer)) (question : Question) (number : ℕ)
       (first : LinkState) (b : List ℕ) (js vs : List Verdict) (unheard : List (List ℕ))
       → origin.granted ≡ Some granted → 64 ≤ granted.pdu → granted.pdu ≤ most_pdu → number < 65536

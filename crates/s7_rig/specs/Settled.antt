@@ -11,7 +11,7 @@ use Rattle.s7_session.specs.Owed.{past, owed, entered}
 use Rattle.s7_session.specs.Verdict.{Verdict}
 
 -- A link is between two messages: its packets are complete, nothing in them ends it, no message is unfinished, its TPDU
--- size is 1,024, it lives, every telegram has its verdict, and this PDU was granted.
+-- size is 1,024, no message or verdict has ended it, every telegram has its verdict, and this PDU was granted.
 pub record Settled (first : LinkState) (b : List ℕ) (js : List Verdict) (granted : Option ℕ) : Type 0 where
   pub rest : rest_of (limits Request) b ≡ []
   pub unended : (reading Request b).ending ≡ None

@@ -4,7 +4,7 @@ use Rattle.s7_schedule.specs.Drawing.{seeded}
 use Rattle.s7_rig.specs.State.{State, are_finished}
 use Rattle.s7_rig.specs.Runs.{Turns, actors_of, most_rounds}
 
--- the first turns of this schedule lead from one state to the other, and these are left
+-- the first turns of this schedule lead from one state to the other, and the turns `left` remain
 pub record TurnsLead (schedule left : List ℕ) (old new : State) : Type 0 where
   pub made : List ℕ
   pub front : schedule ≡ made ++ left

@@ -62,7 +62,7 @@ Answers named files (Err fault.TooLong) = NamedGives named files (Err fault.TooL
 Answers named files (Err (fault.Line n)) = NamedGives named files (Err (fault.Line n))
 Answers named files (Err fault.Memory) = Unit {0}
 
--- the files show that there is none under the named path
+-- the files show that there is no file under the named path
 abbrev pub IsMissing : Named → FilesShown → Type 0
 IsMissing (path p) files = IsTrue files.tells × (files.held p ≡ None)
 IsMissing (block number octets) files = ⊥
@@ -92,7 +92,7 @@ LeavesFiles faulty old new = new ≡ old
 pub record Loads (named : Named) (old new : FilesShown) (result : Result Memory LoadFault) : Type 0 where
   pub answers : Answers named old result
   pub failed : result ≡ Err fault.Failed → HasFailed named old new
-  -- unless the file failed, no count rose either
+  -- unless the file failed, no count rose
   pub unfailed : result ≢ Err fault.Failed → new ≡ old
   -- a file that doesn't exist fails
   pub missing : IsMissing named old → result ≡ Err fault.Failed

@@ -67,7 +67,7 @@ octets_value (b ∷ bs) = encode_lower (b ∷ bs) ∷ []
 abbrev pub number_in : List ℕ → ℕ → ℕ
 number_in octets at = number_of_two (slice_index octets at) (slice_index octets (at + 1))
 
--- for each four octets the number in two of them, from this offset on
+-- the number at this offset of each group of four octets
 unfoldable pub numbers_told : ℕ → List ℕ → List Text
 numbers_told at [] = []
 numbers_told at (a ∷ []) = []

@@ -178,7 +178,7 @@ kind_of refusal.TooManyDbs = kind.Register refusal.TooManyDbs
 abbrev pub with_guard : Memory → Guard → Memory
 with_guard m guard = record m { guard = Some guard }
 
--- at most one guard, before any area
+-- the state after a guard; at most one may come, and only before any area
 abbrev pub guarded : ℕ → State → Option Text → Result State AreasFault
 guarded line s rest =
     if s.may_guard

@@ -22,7 +22,7 @@ pub data Standing : Type 0 where
   stops : Standing
   -- a telegram that asks the plant has no verdict: nothing more is sent
   unjudged : Standing
-  -- a fault or a disconnect request closes it
+  -- a fault or a disconnect request closes the link
   closes : (end : Outcome) → Standing
 
 -- what an event and the verdict of its telegram lead to
@@ -40,7 +40,7 @@ pub record Made : Type 0 where
 
 -- ---- a message
 
--- the message is answered without the plant, or needs no answer
+-- what a message leads to that is answered without the plant, or needs no answer
 abbrev pub settled : Option ℕ → LinkState → List ℕ → List Verdict → Made
 settled size link out verdicts =
     record { size = size; link = link; out = out; mets = []; verdicts = verdicts; standing = lives }
@@ -48,7 +48,7 @@ settled size link out verdicts =
 abbrev pub refusal_sent : ℕ → ℕ → ℕ → List ℕ
 refusal_sent size sequence error = sent_message size (refusal_octets sequence error)
 
--- its telegram has this verdict
+-- what a message leads to whose telegram got this verdict
 abbrev pub judged : Option ℕ → LinkState → List ℕ → Asking → Verdict → List Verdict → Standing → Made
 judged size link out asking verdict later standing =
     record {

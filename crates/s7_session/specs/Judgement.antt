@@ -97,7 +97,7 @@ abbrev pub reply_octets : ℕ → Said → List ℕ
 reply_octets sequence reply =
     if reply.error == 0 then answer_octets sequence reply.params reply.body else refusal_octets sequence reply.error
 
--- the octets of a write are copied, and the image of a block that is inserted
+-- octets of the request are copied: those of a write, or the image of a block that is inserted
 abbrev pub is_copied : Request → Bool
 is_copied (Read items) = false
 is_copied (Write items places octets) = true
@@ -139,7 +139,7 @@ abbrev pub negotiation : LinkState → ℕ → Result Negotiation BadParams → 
 negotiation link sequence (Err bad) = refuse Unreadable
 negotiation link sequence (Ok asked) = negotiated link sequence (granted asked)
 
--- a read with data is unreadable; a read whose full answer is longer than the PDU is over the PDU
+-- a read with data is refused as unreadable, and a read whose full answer is longer than the PDU as over the PDU
 abbrev pub read : LinkState → ℕ → ℕ → List ℕ → Result (List Item) ItemFault → Judgement
 read link pdu sequence body (Err fault) = refuse Unreadable
 read link pdu sequence body (Ok items) =
@@ -181,7 +181,7 @@ control_asked link sequence (control.Insert kind number) =
 control_asked link sequence (control.Delete kind number) =
     if is_stored_kind kind then asks_plainly link sequence (request.Delete kind number) else refuse NotAllowed
 
--- a control with data is unreadable
+-- a control with data is refused as unreadable
 abbrev pub control_in : LinkState → ℕ → List ℕ → Result Control BadControl → Judgement
 control_in link sequence body (Err bad) = refuse Unreadable
 control_in link sequence body (Ok c) =

@@ -60,7 +60,7 @@ abbrev pub IsServedBy : Links → ℕ → Type 0
 IsServedBy [] number = ⊥
 IsServedBy (link ∷ links) number = (number ≡ link.0) ⊎ IsServedBy links number
 
--- their numbers are different
+-- the numbers of the links are different
 abbrev pub AreDifferent : Links → Type 0
 AreDifferent [] = Unit {0}
 AreDifferent (link ∷ links) = (IsServedBy links link.0 → ⊥) × AreDifferent links

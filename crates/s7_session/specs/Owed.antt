@@ -41,7 +41,7 @@ with_made p m = record {
   standing = m.standing;
 }
 
--- only a link that lives goes on
+-- a further event counts only if the events before it haven't ended the link
 abbrev pub if_lives : Standing → Past → Past → Past
 if_lives lives next p = next
 if_lives stops next p = p

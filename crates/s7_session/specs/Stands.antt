@@ -166,7 +166,7 @@ HasCause link link' first s b js outcome.Spent =
     (length b ≡ spent) × IsIdle s × ((past first b js).standing ≡ lives)
 HasCause link link' first s b js outcome.Memory = ((past first b js).standing ≡ stops) × (unsent s ≡ [])
 
--- A link fails once if that closes it, and otherwise not at all: no failure is passed over.
+-- A link fails once if that closes it, and otherwise not at all: no failure is ignored.
 abbrev pub FailsBy : Outcome → ℕ → ℕ → Type 0
 FailsBy outcome.ReadFault before now = RoseExactly 1 before now
 FailsBy outcome.WriteFault before now = RoseExactly 1 before now

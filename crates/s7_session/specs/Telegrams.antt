@@ -57,7 +57,7 @@ AnyFull (Entered reply moment ∷ verdicts) = AnyFull verdicts
 AnyFull (ClockFailed ∷ verdicts) = AnyFull verdicts
 AnyFull (NoMemory ∷ verdicts) = AnyFull verdicts
 
--- none was entered
+-- no telegram was entered
 abbrev pub NoneEntered : List Verdict → Type 0
 NoneEntered [] = Unit {0}
 NoneEntered (Full ∷ verdicts) = NoneEntered verdicts
@@ -65,7 +65,7 @@ NoneEntered (Entered reply moment ∷ verdicts) = ⊥
 NoneEntered (ClockFailed ∷ verdicts) = NoneEntered verdicts
 NoneEntered (NoMemory ∷ verdicts) = NoneEntered verdicts
 
--- once the doer was full for a telegram, none is entered
+-- no telegram is entered after one for which the doer was full
 abbrev pub FullStays : List Verdict → Type 0
 FullStays [] = Unit {0}
 FullStays (Full ∷ verdicts) = NoneEntered verdicts

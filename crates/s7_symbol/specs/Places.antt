@@ -21,7 +21,7 @@ block (Some n) = Some (record { area = data_blocks; db = n })
 abbrev pub single : ℕ → Option Key
 single area = Some (record { area = area; db = 0 })
 
--- PE, PA, MK, or DB and a number from 1 to 65,535
+-- the area that a field names: PE, PA, MK, or DB and a number from 1 to 65,535
 abbrev pub key_of : Text → Option Key
 key_of field =
     if bytes_eq (take 2 field) (codes "DB") then block (up_to 1 65535 (number_of (drop 2 field)))
@@ -40,7 +40,7 @@ abbrev pub bit_at : Option ℕ → Option ℕ → Option ℕ
 bit_at None bit = None
 bit_at (Some octet) bit = bit_behind bit octet
 
--- an octet and a bit with a point between them
+-- the address of an octet and a bit with a point between them
 abbrev pub bit_place : Option (Text × Text) → Option ℕ
 bit_place None = None
 bit_place (Some parts) = bit_at (up_to 0 2097151 (number_of parts.0)) (up_to 0 7 (number_of parts.1))

@@ -132,7 +132,7 @@ tag_of text = do
 abbrev pub has_name : Text → List Tag → Bool
 has_name name tags = list_any (λ (t : Tag). bytes_eq t.name name) tags
 
--- a tag with a new name, after fewer than 2,048 tags
+-- these tags and one more, if its name is new and they are fewer than 2,048
 abbrev pub joined : List Tag → Tag → Result (List Tag) TagFaultKind
 joined tags tag =
     if has_name tag.name tags then Err fault.Double

@@ -45,7 +45,8 @@ module _ {R : Type 0} where
   tickets_of (Gave t h) = 1
   tickets_of (Joined a b) = 0
 
-  -- of two seats, the one that saw less agrees with what the other saw, and not both hand out numbers
+  -- of two seats, the one that has seen less of the history agrees with what the other has seen, and at most one hands
+  -- out numbers
   pub record Match (a b : Note R) : Type 0 where
     pub first : length a.seen ≤ length b.seen → Agrees a.seen a.callers b.seen
     pub second : length b.seen ≤ length a.seen → Agrees b.seen b.callers a.seen

@@ -27,7 +27,7 @@ samples_in (item ∷ items) [] octets = []
 samples_in (item ∷ items) (code ∷ codes) octets =
     sample_first item code octets ∷ samples_in items codes (drop (count_read item code) octets)
 
--- the same code and the same octets
+-- two samples have the same code and the same octets
 abbrev pub are_same : Sample → Sample → Bool
 are_same a b = a.code == b.code && bytes_eq a.octets b.octets
 

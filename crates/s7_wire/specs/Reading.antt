@@ -250,7 +250,7 @@ pub record Opens (opening : Opening) (body : List ℕ) (connection : ConnectionT
   pub spelled : tpdu_of body ≡ Ok told
   pub opens : opening_of opening told ≡ Some connection
 
--- What is read as these bodies is an opening, and the messages of the fragments after it.
+-- These bodies are read as an opening, and as the messages of the fragments after it.
 pub record JoinsMessages (opening : Opening) (first : List ℕ) (bodies : List (List ℕ)) (p : Progress) : Type 0 where
   pub connection : ConnectionTold
   pub opens : Opens opening first connection

@@ -59,7 +59,7 @@ pub record IsAt (t : Transport) (p : Progress) : Type 0 where
   -- the packet that ended the link is the last one
   pub place : (end : Ended) → t.ended ≡ Some end → t.place ≡ t.at
 
--- What one more packet, or octets that show a fault, add to what was read is what was found.
+-- `found` is what one more packet, or octets that show a fault, add to what was read.
 pub record Finds (p p' : Progress) (t : Transport) (found : Found) : Type 0 where
   pub is : IsAt t p'
   pub events : p'.events ≡ p.events ++ events_by found t.joiner.octets p.at

@@ -1,4 +1,4 @@
-//! What the packets of a link amount to: the opening, the messages, and how the link ends.
+//! What the packets of a link give: the opening, the messages, and how the link ends.
 ghost use Rattle.std.specs.Prelude.{◌≡◌, ◌≤◌, None, false};
 ghost use Rattle.std.specs.Option.{ForSome};
 ghost use Rattle.s7_cotp.specs.Gathered.{is_fault};

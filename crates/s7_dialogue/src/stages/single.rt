@@ -69,7 +69,7 @@ pub struct Single {
     /// The question of the telegram in flight, or the next question if none is.
     pub(crate) ask: Ask,
     /// The sequence of the telegram in flight, `None` before it was asked. A telegram that answers a job of the
-    /// server's has none of its own; then it is the client's last own sequence.
+    /// server's has no sequence of the client's own; for it this is the last sequence of the client's own.
     pub(crate) out: Option<u16>,
     /// How many messages of the question were not queued yet.
     pub(crate) unput: usize,

@@ -61,7 +61,7 @@ pub(crate) fn ended<T: Drop>(found: T, rest: Option<&[u8]>) -> Result<T, ScriptK
     }
 }
 
-/// This number of elements from this address on.
+/// The item of this number of elements from this address on.
 pub(crate) fn item_at(placed: Placed, count: u16) -> Item
     ensures { result ≡ item_at (placed_told placed.entry) count }
 {
