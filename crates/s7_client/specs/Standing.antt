@@ -122,7 +122,7 @@ pub record IsBySend (origin : Origin) (link link' : Shown) (end : End) (carried 
   pub rose : Rose link.faults link'.faults
   pub fault : IsFault send_failed end carried
 
--- one of these causes; `kept` are the octets that were received and are unused
+-- the end has one of the causes above; `kept` are the octets that were received and are unused
 abbrev pub HasCause : Origin → Shown → Shown → List ℕ → End → List ℕ → List ℕ → List ℕ → Type 0
 HasCause origin link link' kept end carried b written =
     IsByOctets origin end carried b written

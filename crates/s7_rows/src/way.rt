@@ -15,8 +15,8 @@ pub struct Way {
     pub waits: Option<u64>,
 }
 
-/// The ways of a row: for each number of octets that a call of a link moves, one for each number of octets that come,
-/// or for each call that waits.
+/// The ways of a row. There is one for each pair of a number of octets that a call of a link moves and a number of
+/// octets that come, or a call that waits.
 pub fn ways_of(row: &Row<'_>) -> Result<Vec<Way>, Wrong> {
     let mut ways = Vec::new(row.alloc);
     for cut in row.value(0, "cut").unwrap_or("8192").split(' ') {

@@ -232,7 +232,7 @@ abbrev pub closed : ℕ → State → Option Open → Result Memory AreasFault
 closed line s None = Ok s.areas
 closed line s (Some a) = fault_at line kind.Ended
 
--- the lines from this number on
+-- the areas and the guard after the lines from this number on, or the first faulty line
 unfoldable pub read_lines : ℕ → State → List Text → Result Memory AreasFault
 read_lines line s [] = closed line s s.current
 read_lines line s (text ∷ rest) = do

@@ -59,7 +59,7 @@ at_line line (Err kind) = Err (record { line = line; kind = kind })
 abbrev pub line_sends : ℕ → Text → Result (List SendLine) ScriptFault
 line_sends line text = if is_passed text then Ok [] else at_line line (send_of text)
 
--- the lines from this number on
+-- the blocks of the lines from this number on, or the first faulty line
 unfoldable pub send_lines : ℕ → List Text → Result (List SendLine) ScriptFault
 send_lines line [] = Ok []
 send_lines line (text ∷ rest) = do

@@ -82,7 +82,7 @@ at_line line (Err kind) = Err (record { line = line; kind = kind })
 abbrev pub line_jobs : Option (List Tag) → ℕ → Text → Result (List ScriptLine) ScriptFault
 line_jobs tags line text = if is_passed text then Ok [] else at_line line (tagged_of tags text)
 
--- the lines from this number on
+-- the jobs of the lines from this number on, or the first faulty line
 unfoldable pub script_lines : Option (List Tag) → ℕ → List Text → Result (List ScriptLine) ScriptFault
 script_lines tags line [] = Ok []
 script_lines tags line (text ∷ rest) = do

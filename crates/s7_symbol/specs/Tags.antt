@@ -103,7 +103,7 @@ size_of kind.S5Time = 2
 size_of (kind.Text most) = most + 2
 size_of kind.DateTime = 8
 
--- a bit, or as many bytes as the type has
+-- the item of a tag: a bit, or as many bytes as the type has
 abbrev pub item_at : TagKind → Key → ℕ → Item
 item_at of key address = record {
   area = key.area;
@@ -147,7 +147,7 @@ abbrev pub at_line : ℕ → Result (List Tag) TagFaultKind → Result (List Tag
 at_line line (Ok tags) = Ok tags
 at_line line (Err kind) = Err (record { line = line; kind = kind })
 
--- the lines from this number on, after these tags
+-- these tags and those of the lines from this number on, or the first faulty line
 unfoldable pub tags_from : ℕ → List Tag → List Text → Result (List Tag) TagFault
 tags_from line tags [] = Ok tags
 tags_from line tags (text ∷ rest) = do
