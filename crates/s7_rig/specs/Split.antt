@@ -108,7 +108,7 @@ StandsAtPlaces opening history link pdu told places =
     told.code ≡ no_fault
     → ReadStands opening history link pdu told.job places told.octets (take told.count told.codes)
 
--- each result with the numbers of its entries
+-- `StandsAtPlaces` holds of each result, with the numbers of its entries
 unfoldable pub AllStand : State → History → ℕ → ℕ → List JobResult → List (List ℕ) → Type 0
 AllStand opening history link pdu [] [] = Unit {0}
 AllStand opening history link pdu [] (numbers ∷ places) = ⊥

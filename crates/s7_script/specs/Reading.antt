@@ -46,7 +46,7 @@ version_of text =
 abbrev pub is_graphic : ℕ → Bool
 is_graphic b = nat_le 0x21 b && nat_le b 0x7E
 
--- one to eight such octets
+-- one to eight printable ASCII octets without space
 abbrev pub is_word : Text → Bool
 is_word text = (nat_le 1 (length text) && nat_le (length text) 8) && list_all is_graphic text
 

@@ -57,7 +57,7 @@ fields_of text = first_on (field_of text) (rest_of text)
 abbrev pub is_name_letter : ℕ → Bool
 is_name_letter b = (nat_le 48 b && nat_le b 57) || (nat_le 65 b && nat_le b 90) || (nat_le 97 b && nat_le b 122) || (b == 95)
 
--- 1 to 32 such characters
+-- 1 to 32 ASCII letters, digits or `_`
 abbrev pub is_name : Text → Bool
 is_name text = (nat_le 1 (length text) && nat_le (length text) 32) && list_all is_name_letter text
 
