@@ -25,21 +25,23 @@ use Rattle.s7_partner.specs.declared.partner.Arrived.{Arrived}
 use Rattle.s7_partner.specs.declared.step.Step.{Step}
 use Rattle.s7_partner.specs.declared.step.Step.TheVariants as step
 use Rattle.s7_partner.specs.States.{Stage, negotiating, closed, State, Sending, Block, Act, reads, with_act, after}
-use Rattle.s7_partner.specs.States.{opened_by, with_message, is_sending}
+use Rattle.s7_partner.specs.States.{opened_by, with_message, is_sending, read_in}
 use Rattle.s7_partner.specs.Acts.{MayTake}
-use Rattle.s7_partner.specs.Partners.{opening_by, IsPrefixOf, code_of_ending, is_opened, by_message, by_ending}
+use Rattle.s7_partner.specs.Order.{IsOrderly}
+use Rattle.s7_partner.specs.Partners.{opening_by, code_of_ending, is_opened, by_message, by_ending}
 use Rattle.s7_partner.specs.Held.{closed_of, code_in, unread_of, stage_in, sending_in, receiving_in, block_in}
 use Rattle.s7_partner.specs.Held.{HoldsHanded, StandsFor}
 use Rattle.s7_partner.specs.Octet.{ReadsOctet}
 use Rattle.s7_partner.specs.Steps.{TellsStep, IsClosing, Runs}
 use Rattle.s7_partner.specs.At.{HoldsState, IsAt, KeepsLink, KeepsState, KeepsRest, Reaches, OpensBy, Does, code_by}
 use Rattle.s7_partner.specs.At as at
-use Rattle.s7_partner.proofs.GrowthLemmas.{prefix_same, prefix_to, message_grows}
+use Rattle.s7_partner.proofs.DeedLemmas.{orderly_used}
+use Rattle.s7_partner.proofs.GrowthLemmas.{message_grows}
 use Rattle.s7_partner.proofs.CourseLemmas.{course_used, course_read}
 use Rattle.s7_partner.proofs.MoveLemmas.{moves_used}
 use Rattle.s7_partner.proofs.MeetLemmas.{counts_here}
 use Rattle.s7_partner.proofs.StandLemmas.{holds_state, stands_open, stands_by, after_act}
-use Rattle.s7_partner.proofs.StepLemmas.{settled, all_sent, no_octets}
+use Rattle.s7_partner.proofs.StepLemmas.{settled, all_sent}
 use Rattle.s7_partner.proofs.RunLemmas.{run_at}
 
 -- ---- what was found, by how the link is opened
@@ -81,12 +83,16 @@ finds : (old mid : Partner) (found : Found) (acts : List Act) (b written : List 
 finds old mid found acts b written r s =
     found_at (opening_by old.role) mid.reader b r.octet.used found (r.octet.opening ∙ s.opens) (r.octet.finds b s.read)
 
--- all was sent before the octet was used
-sent_prefix : (old : Partner) (acts : List Act) (b written : List ℕ) → StandsFor old acts b written
-    → old.outbox.unsent ≡ [] → IsPrefixOf (after old.role old.config acts).out written
-sent_prefix old acts b written s none =
-    let out = (after old.role old.config acts).out in
-    prefix_to out out written (prefix_same out) (sym (all_sent old acts b written s none))
+-- the octet was used in order, with what was read then
+ordered : (old mid : Partner) (found : Found) (acts more : List Act) (b w : List ℕ) (r : Reads old mid found)
+    → old.whole ≡ None → old.handed ≡ None → StandsFor old acts b w
+    → read_in (acts ++ more) ≡ (reading (opening_by old.role) (b ++ r.octet.used)).events
+    → IsOrderly old.role old.config (unread_of old) acts more b w [] r.octet.used []
+ordered old mid found acts more b w r none_whole none_handed s events =
+    let all = after old.role old.config acts in
+    orderly_used old.role old.config (unread_of old) (unread_of mid) acts more b w r.octet.used (r.octet.one s.going)
+    (all_sent old acts b w s r.sent) (settled old all (holds_state old all s.holds) none_whole none_handed)
+    r.octet.inbox events
 
 -- the state with another stage
 staged : (old mid : Partner) (found : Found) (t : Stage) (s : State) (written : List ℕ) → Reads old mid found
@@ -127,10 +133,11 @@ still_at old mid found s written r stage h sent =
 
 -- ---- nothing is found
 
-pub runs_more : (old new : Partner) (link : Shown) → closed_of old ≡ None → Reads old new finding.More
+pub runs_more : (old new : Partner) (link : Shown) → closed_of old ≡ None → old.whole ≡ None → old.handed ≡ None
+    → Reads old new finding.More
     → new.stage ≡ old.stage → Runs old link new link step.Went
 unfolding moves_used
-runs_more old new link live r stage = record {
+runs_more old new link live none_whole none_handed r stage = record {
   role = r.role;
   config = r.config;
   moves = moves_used (unread_of old) (unread_of new) link r.octet.used r.octet.inbox;
@@ -144,7 +151,9 @@ runs_more old new link live r stage = record {
       let course = course_used old.role old.config acts b used w (sym sent)
       (f.events ∙ append-nil (reading (opening_by old.role) b).events) s.course in
       run_at old.role old.config (unread_of old) new link link acts b w [] used [] step.Went [] acts (b ++ used) w
-      (sym (append-nil acts)) refl (sym (append-nil w)) (λ h. sent_prefix old acts b w s r.sent) no_octets course tt
+      (sym (append-nil acts)) refl (sym (append-nil w))
+      (ordered old new finding.More acts [] b w r none_whole none_handed s (ap read_in (append-nil acts) ∙ course.events))
+      course tt
       (λ h. stands_by old.role old.config new acts all (b ++ used) w r.role r.config refl (ap code_in stage ∙ live)
       (still_at old new finding.More all w r stage (holds_state old all s.holds) sent)
       (λ n e. s.holds.size n (sym r.octet.size ∙ e)) (r.octet.opening ∙ s.opens) f.read (f.goes f.ending) course);
@@ -219,7 +228,8 @@ runs_opened old mid new c link none_whole none_handed r stage keeps opens rest =
       (reads_may old acts (opened told) b w s none_whole none_handed) f.events s.course in
       run_at old.role old.config (unread_of old) new link link acts b w [] used [] step.Went (reads (opened told) ∷ [])
       (acts ++ reads (opened told) ∷ []) (b ++ used) w refl refl (sym (append-nil w))
-      (λ g. sent_prefix old acts b w s r.sent) no_octets course (
+      (ordered old mid (finding.Opened c) acts (reads (opened told) ∷ []) b w r none_whole none_handed s course.events)
+      course (
         quiet_by old new all (with_act old.role old.config all (reads (opened told))) h
             (subst (λ (x : State). HoldsState new x) (sym (opened_is old.role old.config all told)) here.holds)
             (λ e. rest.sending ∙ (ap is_none r.sending ∙ e)),
@@ -327,7 +337,7 @@ runs_message old mid new link result none_whole none_handed r stage reached does
           (reads_may old acts event b w s none_whole none_handed) f.events s.course in
           run_at old.role old.config (unread_of old) new link link acts b w [] used [] result (reads event ∷ [])
           (acts ++ reads event ∷ []) (b ++ used) w refl refl (sym (append-nil w))
-          (λ g. sent_prefix old acts b w s r.sent) no_octets course
+          (ordered old mid finding.Message acts (reads event ∷ []) b w r none_whole none_handed s course.events) course
           (message_tells old mid new all event result link link (unread_of new) (b ++ used) w old.role old.config
           r.sending h (subst (λ (x : State). HoldsState new x) act_is here.holds) does)
           (λ g. stands_by old.role old.config new (acts ++ reads event ∷ []) next (b ++ used) w
@@ -386,7 +396,8 @@ runs_ended old mid new found code link none_whole none_handed r closes ends =
           ∙ append-nil events)) s.course in
           run_at old.role old.config (unread_of old) new link link acts b w [] used [] (step.Closed code) [] acts
           (b ++ used) w (sym (append-nil acts)) refl (sym (append-nil w))
-          (λ g. sent_prefix old acts b w s r.sent) no_octets course (
+          (ordered old mid found acts [] b w r none_whole none_handed s (ap read_in (append-nil acts) ∙ course.events))
+          course (
             tt,
             by_ending e.ending (f.ending ∙ e.is)
                 (e.code_is ∙ ap (λ (t : Stage). code_of_ending (is_opened t) e.ending) h.stage)

@@ -13,6 +13,7 @@ pub mod CountedLemmas
 pub mod OctetLemmas
 pub mod ReachLemmas
 pub mod ExchangeLemmas
+pub mod DeedLemmas
 pub mod MoveLemmas
 pub mod MeetLemmas
 pub mod TellLemmas

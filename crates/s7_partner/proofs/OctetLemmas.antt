@@ -18,12 +18,13 @@ use Rattle.s7_partner.proofs.CountLemmas.{octet_less}
 pub reads_octet : (old new : Reader) (before after used : List ℕ) (found : Found) → length used ≤ 1
     → before ≡ used ++ after → ((b : List ℕ) → HasRead old b → HasFound new b used found)
     → opens_by new ≡ opens_by old → HasReadSome old
-    → (found ≡ finding.More → 0 < length used)
+    → (ended_with old ≡ None → 0 < length used) → (found ≡ finding.More → 0 < length used)
     → ((c : Connection) → found ≡ finding.Opened c → CanBeWritten c) → (found ≡ finding.Message → HasMessage new)
     → ReadsOctet old new before after found
-reads_octet old new before after used found few inbox finds opening some taken writable whole = record {
+reads_octet old new before after used found few inbox finds opening some one taken writable whole = record {
   used = used;
   few = few;
+  one = one;
   inbox = inbox;
   finds = finds;
   opening = opening;

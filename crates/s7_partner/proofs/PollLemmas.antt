@@ -13,23 +13,22 @@ use Rattle.s7_partner.specs.declared.partner.Arrived.{Arrived}
 use Rattle.s7_partner.specs.declared.event.PartnerEvent.{PartnerEvent}
 use Rattle.s7_partner.specs.declared.event.PartnerEvent.TheVariants as told
 use Rattle.s7_partner.specs.declared.step.Step.TheVariants as step
-use Rattle.s7_partner.specs.States.{State, Block, Act, gives, reads, hands, acknowledges, with_act, with_acts, after}
-use Rattle.s7_partner.specs.States.{handed_out, last_acknowledged}
-use Rattle.s7_partner.specs.Acts.{MayTake, AreTaken, AreQuiet}
-use Rattle.s7_partner.specs.Partners.{IsPrefixOf, Course, is_waiting, Tells}
+use Rattle.s7_partner.specs.States.{State, Block, Act, hands, with_act, with_acts, after, handed_out}
+use Rattle.s7_partner.specs.Acts.{MayTake}
+use Rattle.s7_partner.specs.Partners.{Course, is_waiting, Tells}
 use Rattle.s7_partner.specs.Held.{closed_of, code_in, unread_of, stage_in, sending_in, receiving_in, block_in}
 use Rattle.s7_partner.specs.Held.{StandsFor}
-use Rattle.s7_partner.specs.Calls.{IsClosing, IsPoll, acknowledged_first}
+use Rattle.s7_partner.specs.Order.{IsOrderly}
+use Rattle.s7_partner.specs.Calls.{IsClosing, IsPoll}
 use Rattle.s7_partner.specs.Steps.{Runs, Acknowledges, HasPolled, Polls, unless_whole}
 use Rattle.s7_partner.specs.At.{HoldsState, IsAt, KeepsLink}
 use Rattle.s7_partner.proofs.CourseLemmas.{course_act}
-use Rattle.s7_partner.proofs.ActLemmas.{after-append, taken_behind}
-use Rattle.s7_partner.proofs.GrowthLemmas.{acts_grow, prefix_both, prefix_to}
+use Rattle.s7_partner.proofs.ActLemmas.{after-append}
+use Rattle.s7_partner.proofs.DeedLemmas.{orderly_none, orderly_done, orderly_both}
 use Rattle.s7_partner.proofs.MoveLemmas.{moves_used, moves_both}
 use Rattle.s7_partner.proofs.MeetLemmas.{event_counts}
 use Rattle.s7_partner.proofs.StandLemmas.{holds_state, stands_at, stands_open, stands_act}
-use Rattle.s7_partner.proofs.StepLemmas.{no_octets, none_handed}
-use Rattle.s7_partner.proofs.RunLemmas.{subst_three, some_of_two, Behind, sent_by, received_by}
+use Rattle.s7_partner.proofs.RunLemmas.{subst_three}
 use Rattle.s7_partner.proofs.TellLemmas.{tells_behind}
 use Rattle.s7_partner.proofs.ConsumeLemmas.{some_same, whole_by}
 
@@ -37,21 +36,17 @@ use Rattle.s7_partner.proofs.ConsumeLemmas.{some_same, whole_by}
 pub polled_at : (role : Role) (config : Config) (kept : List ℕ) (new : Partner) (link link' : Shown) (acts : List Act)
     (b written received used more : List ℕ) (result : Result PartnerEvent Memory) (further acts' : List Act)
     (b' w' : List ℕ) → acts' ≡ acts ++ further → b' ≡ b ++ used → w' ≡ written ++ more
-    → (0 < length used → IsPrefixOf (after role config acts).out w')
-    → (0 < length received → IsPrefixOf (after role config acts).out w' × IsPrefixOf kept used)
+    → IsOrderly role config kept acts further b written received used more
     → Course role config acts' b' w'
     → Tells role config (after role config acts) further link link' (unread_of new) b' w' result
     → ((IsClosing result → ⊥) → StandsFor new acts' b' w')
     → HasPolled role config kept new link link' acts b written received used more result
-polled_at role config kept new link link' acts b written received used more result further acts' b' w' ea eb ew sent
-    last course tells stands =
+polled_at role config kept new link link' acts b written received used more result further acts' b' w' ea eb ew orderly
+    course tells stands =
     let all = acts ++ further in
-    let out = (after role config acts).out in
-    let prefix : IsPrefixOf out w' → IsPrefixOf out (written ++ more) = subst (IsPrefixOf out) ew in
     record {
       further = further;
-      sent_before = λ h. prefix (sent h);
-      received_last = λ h. (prefix (last h).0, (last h).1);
+      orderly = orderly;
       course = subst_three (Course role config) all acts' (b ++ used) b' (written ++ more) w' ea eb ew course;
       tells = subst_three
           (λ x y z. Tells role config (after role config acts) further link link' (unread_of new) y z result)
@@ -84,14 +79,6 @@ polls_behind a b c k k1 k2 result m n = record {
       let y = polled_in b.role a.role b.config a.config (unread_of b) c k1 k2 (acts ++ x.further) (bb ++ m.moves.used)
       (w ++ m.moves.written) n.moves.received n.moves.used n.moves.written result m.role m.config
       (n.polled (acts ++ x.further) (bb ++ m.moves.used) (w ++ m.moves.written) (x.stands (λ h. h))) in
-      let behind : Behind a.role a.config (unread_of a) (unread_of b) acts x.further w m.moves.written n.moves.written
-      m.moves.received n.moves.received m.moves.used n.moves.used = record {
-        inbox = m.moves.inbox;
-        before = x.sent_before;
-        last = x.received_last;
-        before' = y.sent_before;
-        last' = y.received_last;
-      } in
       let b' = (bb ++ m.moves.used) ++ n.moves.used in
       let w' = (w ++ m.moves.written) ++ n.moves.written in
       polled_at a.role a.config (unread_of a) c k k2 acts bb w (m.moves.received ++ n.moves.received)
@@ -99,11 +86,8 @@ polls_behind a b c k k1 k2 result m n = record {
       ((acts ++ x.further) ++ y.further) b' w'
       (append_assoc acts x.further y.further) (append_assoc bb m.moves.used n.moves.used)
       (append_assoc w m.moves.written n.moves.written)
-      (λ h. sent_by a.role a.config (unread_of a) (unread_of b) acts x.further w m.moves.written n.moves.written
-      m.moves.received n.moves.received m.moves.used n.moves.used behind (some_of_two m.moves.used n.moves.used h))
-      (λ h. received_by a.role a.config (unread_of a) (unread_of b) acts x.further w m.moves.written n.moves.written
-      m.moves.received n.moves.received m.moves.used n.moves.used behind
-      (some_of_two m.moves.received n.moves.received h))
+      (orderly_both a.role a.config (unread_of a) (unread_of b) acts x.further y.further bb w m.moves.received
+      m.moves.used m.moves.written n.moves.received n.moves.used n.moves.written m.moves.inbox x.orderly y.orderly)
       y.course
       (tells_behind a.role a.config all x.further y.further k k1 k2 (unread_of c) b' w' result x.tells
       m.moves.faults m.moves.waits
@@ -125,8 +109,7 @@ polls_sent a b k k' m = record {
       let x = m.run acts bb w stands in
       record {
         further = x.further;
-        sent_before = x.sent_before;
-        received_last = x.received_last;
+        orderly = x.orderly;
         course = x.course;
         tells = x.tells;
         stands = x.stands;
@@ -145,8 +128,7 @@ polls_closed a b k k' code m = record {
       let x = m.run acts bb w stands in
       record {
         further = x.further;
-        sent_before = x.sent_before;
-        received_last = x.received_last;
+        orderly = x.orderly;
         course = x.course;
         tells = x.tells;
         stands = x.stands;
@@ -176,8 +158,7 @@ polls_pending a b k k' waits m = record {
       let t = x.tells in
       record {
         further = x.further;
-        sent_before = x.sent_before;
-        received_last = x.received_last;
+        orderly = x.orderly;
         course = x.course;
         tells = (
           t.0,
@@ -203,8 +184,7 @@ polls_idle a b k k' waits m = record {
       let t = x.tells in
       record {
         further = x.further;
-        sent_before = x.sent_before;
-        received_last = x.received_last;
+        orderly = x.orderly;
         course = x.course;
         tells = (
           t.0,
@@ -232,7 +212,8 @@ polls_kept p link memory live whole = record {
   polled = λ acts b w s.
       let all = after p.role p.config acts in
       polled_at p.role p.config (unread_of p) p link link acts b w [] [] [] (Err memory) [] acts b w
-      (sym (append-nil acts)) (sym (append-nil b)) (sym (append-nil w)) no_octets no_octets s.course
+      (sym (append-nil acts)) (sym (append-nil b)) (sym (append-nil w))
+      (orderly_none p.role p.config (unread_of p) acts b w) s.course
       (tt, whole_by p.whole p.octets.octets all.whole s.holds.whole whole) (λ h. s);
 }
 
@@ -290,7 +271,7 @@ polls_received old new a body link live whole copied keeps none handed stage seq
           let may : MayTake all hands = (stands_open old acts b w s, ap is_some block_is) in
           polled_at old.role old.config (unread_of old) new link link acts b w [] [] []
           (Ok (told.Received a.rid body)) (hands ∷ []) (acts ++ hands ∷ []) b w refl (sym (append-nil b))
-          (sym (append-nil w)) no_octets no_octets
+          (sym (append-nil w)) (orderly_done old.role old.config (unread_of old) acts hands b w)
           (course_act old.role old.config acts hands b w refl may s.course)
           ([], block, refl, tt, block_is, refl, copied)
           (λ h. stands_act old new acts hands (with_handed all block) b w keeps (ap code_in stage ∙ live) refl
@@ -308,29 +289,11 @@ less_behind (Some a) o' m n none less = subst (λ x. 0 < unless_whole x n) (sym 
 
 -- ---- a whole poll
 
--- what was handed out is acknowledged by quiet acts behind which nothing is
-acknowledged_then : (role : Role) (config : Config) (s : State) (acts : List Act) → AreTaken role config s acts
-    → AreQuiet role config s acts → (with_acts role config s acts).handed ≡ None
-    → IsPrefixOf (acknowledged_first s).out (with_acts role config s acts).out
-unfolding with_act
-acknowledged_then role config s [] taken quiet none =
-    ([], ap (λ h. (last_acknowledged s h).out) (sym none) ∙ sym (append-nil (acknowledged_first s).out))
-acknowledged_then role config s (gives rid body ∷ acts) taken quiet none = absurd quiet.0
-acknowledged_then role config s (reads event ∷ acts) taken quiet none =
-    subst (λ h. IsPrefixOf (last_acknowledged s h).out (with_acts role config s (reads event ∷ acts)).out)
-    (sym taken.0.1.handed) (acts_grow role config s (reads event ∷ acts))
-acknowledged_then role config s (hands ∷ acts) taken quiet none = absurd quiet.0
-acknowledged_then role config s (acknowledges ∷ acts) taken quiet none =
-    acts_grow role config (acknowledged_first s) acts
-
-used_behind : (xs ys : List ℕ) → xs ≡ [] → 0 < length (xs ++ ys) → 0 < length ys
-used_behind xs ys e h = subst (λ x. 0 < length (x ++ ys)) e h
-
 -- what was handed out is acknowledged first
 pub poll_behind : (a b c : Partner) (k k' : Shown) (result : Result PartnerEvent Memory) → closed_of a ≡ None
-    → b.handed ≡ None → ((link : Shown) → Acknowledges a b link) → Polls b k c k' result → IsPoll a k c k' result
+    → ((link : Shown) → Acknowledges a b link) → Polls b k c k' result → IsPoll a k c k' result
 unfolding moves_both polls_behind
-poll_behind a b c k k' result live none first p =
+poll_behind a b c k k' result live first p =
     let m = (first k).runs in
     let whole = polls_behind a b c k k k' result m p in
     record {
@@ -341,32 +304,10 @@ poll_behind a b c k k' result live none first p =
       closed = whole.closed;
       stays = λ code e. absurd (let x : None ≡ Some code = sym live ∙ e in cc);
       polled = λ h acts bb w s.
-          let x = m.run acts bb w s in
-          let all = after a.role a.config acts in
-          let stood = x.stands (λ h. h) in
-          let held = holds_then a b acts x.further (bb ++ m.moves.used) (w ++ m.moves.written) m.role m.config stood in
-          let taken = taken_behind a.role a.config (after a.role a.config []) acts x.further x.course.taken in
-          let told = acknowledged_then a.role a.config all x.further taken x.tells
-          (none_handed b.handed (with_acts a.role a.config all x.further).handed held.handed none) in
           let y = whole.polled acts bb w s in
-          let z = polled_in b.role a.role b.config a.config (unread_of b) c k k' (acts ++ x.further)
-          (bb ++ m.moves.used) (w ++ m.moves.written) p.moves.received p.moves.used p.moves.written result m.role
-          m.config (p.polled (acts ++ x.further) (bb ++ m.moves.used) (w ++ m.moves.written) stood) in
-          let all_then = after a.role a.config (acts ++ x.further) in
-          let grown : IsPrefixOf all_then.out ((w ++ m.moves.written) ++ p.moves.written)
-          → IsPrefixOf (acknowledged_first all).out (w ++ (m.moves.written ++ p.moves.written)) =
-          λ q. subst (IsPrefixOf (acknowledged_first all).out) (append_assoc w m.moves.written p.moves.written)
-          (prefix_both (acknowledged_first all).out all_then.out ((w ++ m.moves.written) ++ p.moves.written)
-          (prefix_to (acknowledged_first all).out (with_acts a.role a.config all x.further).out all_then.out told
-          (ap (λ (st : State). st.out) (sym (after-append a.role a.config acts x.further)))) q) in
           record {
             further = y.further;
-            sent_before = λ g. grown (z.sent_before (used_behind m.moves.used p.moves.used (first k).unused g));
-            received_last = λ g. (
-              grown (z.received_last
-                  (used_behind m.moves.received p.moves.received (first k).unreceived g)).0,
-              (y.received_last g).1,
-            );
+            orderly = y.orderly;
             course = y.course;
             tells = y.tells;
             stands = y.stands;

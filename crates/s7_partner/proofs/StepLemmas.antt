@@ -30,8 +30,8 @@ use Rattle.s7_partner.specs.Outboxes.{Puts}
 use Rattle.s7_partner.specs.Steps.{CountsStep, Runs, Acknowledges}
 use Rattle.s7_partner.specs.At.{HoldsState, IsAt, KeepsLink, KeepsState}
 use Rattle.s7_partner.specs.At as at
-use Rattle.s7_partner.proofs.GrowthLemmas.{prefix_same, prefix_to}
 use Rattle.s7_partner.proofs.CourseLemmas.{course_act, course_sent}
+use Rattle.s7_partner.proofs.DeedLemmas.{orderly_none, orderly_done, orderly_sent, orderly_received}
 use Rattle.s7_partner.proofs.MoveLemmas.{prepend_none, moves_received, moves_sent, moves_used}
 use Rattle.s7_partner.proofs.StateLemmas.{same_some, put_behind}
 use Rattle.s7_partner.proofs.StandLemmas.{holds_state, stands_at, stands_open, stands_by, stands_act}
@@ -89,10 +89,6 @@ stands_keep old new acts b written written' keeps k out course s =
     (subst (λ (r : Reader). HasRead r b) (sym keeps.reader) s.read)
     (ap ended_with keeps.reader ∙ s.going) course
 
--- no octet was used or received
-pub no_octets : {P : Type 0} → 0 < length {A = ℕ} [] → P
-no_octets h = absurd (omega (arith, h))
-
 -- ---- octets are sent
 
 -- what holds of a link behind a flush
@@ -120,10 +116,10 @@ out_behind all written old more new e f =
     e ∙ (ap (λ (x : List ℕ). written ++ x) f ∙ sym (append_assoc written more new))
 
 pub runs_sent : (old new : Partner) (link link' : Shown) (more : List ℕ) → closed_of old ≡ None → KeepsLink old new
-    → KeepsState old new → old.outbox.unsent ≡ more ++ new.outbox.unsent → Flushed link link' more
+    → KeepsState old new → old.outbox.unsent ≡ more ++ new.outbox.unsent → 0 < length more → Flushed link link' more
     → MetNothing link link' → Runs old link new link' step.Went
 unfolding moves_sent
-runs_sent old new link link' more live keeps k sent f met = record {
+runs_sent old new link link' more live keeps k sent some f met = record {
   role = keeps.role;
   config = keeps.config;
   moves = moves_sent (unread_of old) (unread_of new) link link' more (sym keeps.inbox) f.wrote f.space f.same f.faults
@@ -135,7 +131,8 @@ runs_sent old new link link' more live keeps k sent f met = record {
       sent in
       let course = course_sent old.role old.config acts b w more new.outbox.unsent out s.course in
       run_at old.role old.config (unread_of old) new link link' acts b w [] [] more step.Went [] acts b (w ++ more)
-      (sym (append-nil acts)) (sym (append-nil b)) refl no_octets no_octets course tt
+      (sym (append-nil acts)) (sym (append-nil b)) refl
+      (orderly_sent old.role old.config (unread_of old) acts b w more some) course tt
       (λ h. stands_keep old new acts b w (w ++ more) keeps k out course s);
 }
 
@@ -166,7 +163,8 @@ runs_full old new link link' live keeps k none_whole none sent some f no_space p
       let out = out_behind all.out w old.outbox.unsent [] new.outbox.unsent s.owed sent in
       let course = course_sent old.role old.config acts b w [] new.outbox.unsent out s.course in
       run_at old.role old.config (unread_of old) new link link' acts b w [] [] [] step.NotYet [] acts b (w ++ [])
-      (sym (append-nil acts)) (sym (append-nil b)) refl no_octets no_octets course (
+      (sym (append-nil acts)) (sym (append-nil b)) refl
+      (orderly_none old.role old.config (unread_of old) acts b w) course (
         tt,
         settled old all (holds_state old all s.holds) none_whole none,
         record {
@@ -197,7 +195,8 @@ runs_unsent old mid new link link' live keeps same closes none_whole some f once
       let out : all.out ≡ (w ++ []) ++ old.outbox.unsent =
       s.owed ∙ ap (λ (x : List ℕ). x ++ old.outbox.unsent) (sym (append-nil w)) in
       run_at old.role old.config (unread_of old) new link link' acts b w [] [] [] (step.Closed send_failed) [] acts b
-      (w ++ []) (sym (append-nil acts)) (sym (append-nil b)) refl no_octets no_octets
+      (w ++ []) (sym (append-nil acts)) (sym (append-nil b)) refl
+      (orderly_none old.role old.config (unread_of old) acts b w)
       (course_sent old.role old.config acts b w [] old.outbox.unsent out s.course) (
         tt,
         by_transmit old.outbox.unsent (goes_on old acts b w s)
@@ -245,10 +244,10 @@ stands_all old new acts b written k s =
     (ap ended_with k.reader ∙ s.going) s.course
 
 pub runs_received : (old new : Partner) (link link' : Shown) → closed_of old ≡ None → KeepsAll old new
-    → unread_of old ≡ [] → old.outbox.unsent ≡ [] → Refilled link link' (unread_of new) → MetNothing link link'
-    → Runs old link new link' step.Went
+    → old.whole ≡ None → old.handed ≡ None → unread_of old ≡ [] → old.outbox.unsent ≡ [] → 0 < length (unread_of new)
+    → Refilled link link' (unread_of new) → MetNothing link link' → Runs old link new link' step.Went
 unfolding moves_received
-runs_received old new link link' live k none sent f met = record {
+runs_received old new link link' live k none_whole none_handed none sent some f met = record {
   role = k.role;
   config = k.config;
   moves = moves_received (unread_of old) (unread_of new) link link' (unread_of new) []
@@ -258,11 +257,9 @@ runs_received old new link link' live k none sent f met = record {
   run = λ acts b w s.
       let all = after old.role old.config acts in
       run_at old.role old.config (unread_of old) new link link' acts b w (unread_of new) [] [] step.Went [] acts b w
-      (sym (append-nil acts)) (sym (append-nil b)) (sym (append-nil w)) no_octets
-      (λ h. (
-        prefix_to all.out all.out w (prefix_same all.out) (sym (all_sent old acts b w s sent)),
-        ([], sym none ∙ sym (append-nil (unread_of old))),
-      ))
+      (sym (append-nil acts)) (sym (append-nil b)) (sym (append-nil w))
+      (orderly_received old.role old.config (unread_of old) acts b w (unread_of new) some
+      (all_sent old acts b w s sent) (settled old all (holds_state old all s.holds) none_whole none_handed) none)
       s.course tt (λ h. stands_all old new acts b w k s);
 }
 
@@ -294,7 +291,8 @@ runs_empty old new link link' live k none_whole none_handed none none' sent f no
           let all = after old.role old.config acts in
           let sent_all : w ≡ all.out = all_sent old acts b w s sent in
           run_at old.role old.config (unread_of old) new link link' acts b w [] [] [] step.NotYet [] acts b w
-          (sym (append-nil acts)) (sym (append-nil b)) (sym (append-nil w)) no_octets no_octets s.course (
+          (sym (append-nil acts)) (sym (append-nil b)) (sym (append-nil w))
+          (orderly_none old.role old.config (unread_of old) acts b w) s.course (
             tt,
             settled old all (holds_state old all s.holds) none_whole none_handed,
             record {
@@ -329,7 +327,8 @@ runs_broken old mid new link link' code k closes none_whole none_handed none non
       run = λ acts b w s.
           let all = after old.role old.config acts in
           run_at old.role old.config (unread_of old) new link link' acts b w [] [] [] (step.Closed code) [] acts b w
-          (sym (append-nil acts)) (sym (append-nil b)) (sym (append-nil w)) no_octets no_octets s.course (
+          (sym (append-nil acts)) (sym (append-nil b)) (sym (append-nil w))
+          (orderly_none old.role old.config (unread_of old) acts b w) s.course (
             tt,
             cause all b w (record {
               goes_on = goes_on old acts b w s;
@@ -354,7 +353,8 @@ acknowledges_none p link live = record {
     closed = live;
     run = λ acts b w s.
         run_at p.role p.config (unread_of p) p link link acts b w [] [] [] step.Went [] acts b w
-        (sym (append-nil acts)) (sym (append-nil b)) (sym (append-nil w)) no_octets no_octets s.course tt (λ h. s);
+        (sym (append-nil acts)) (sym (append-nil b)) (sym (append-nil w))
+        (orderly_none p.role p.config (unread_of p) acts b w) s.course tt (λ h. s);
   };
   unused = refl;
   unreceived = refl;
@@ -442,7 +442,8 @@ acknowledges_last old new a size link live held none sized puts keeps stage sequ
             let is = last_is old.role old.config all k.0 k.1 in
             let may : MayTake all acknowledges = (stands_open old acts b w s, ap is_some k.1) in
             run_at old.role old.config (unread_of old) new link link acts b w [] [] [] step.Went (acknowledges ∷ [])
-            (acts ++ acknowledges ∷ []) b w refl (sym (append-nil b)) (sym (append-nil w)) no_octets no_octets
+            (acts ++ acknowledges ∷ []) b w refl (sym (append-nil b)) (sym (append-nil w))
+            (orderly_done old.role old.config (unread_of old) acts acknowledges b w)
             (course_act old.role old.config acts acknowledges b w refl may s.course) (tt, tt)
             (λ h. stands_act old new acts acknowledges (with_last all k.0) b w keeps (ap code_in stage ∙ live) refl is
             may refl

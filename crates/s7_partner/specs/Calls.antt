@@ -12,8 +12,9 @@ use Rattle.s7_partner.specs.declared.event.PartnerEvent.TheVariants as told
 use Rattle.s7_partner.specs.declared.event.SendFault.{SendFault}
 use Rattle.s7_partner.specs.declared.event.SendFault.TheVariants as refusal
 use Rattle.s7_partner.specs.declared.partner.Partner.{Partner}
-use Rattle.s7_partner.specs.States.{State, Act, gives, after, last_acknowledged}
-use Rattle.s7_partner.specs.Partners.{IsPrefixOf, Course, Tells}
+use Rattle.s7_partner.specs.States.{Act, gives, after}
+use Rattle.s7_partner.specs.Partners.{Course, Tells}
+use Rattle.s7_partner.specs.Order.{IsOrderly}
 use Rattle.s7_partner.specs.Held.{role_of, config_of, unread_of, closed_of, sending_of, StandsFor}
 
 -- A partner that was just made has used and transmitted nothing.
@@ -57,22 +58,14 @@ IsClosing (Ok told.Idle) = ⊥
 IsClosing (Ok (told.Closed code)) = Unit {0}
 IsClosing (Err memory) = ⊥
 
--- the state after the acknowledgement of the block that was handed out, if there is one; it is sent first
-abbrev pub acknowledged_first : State → State
-acknowledged_first s = last_acknowledged s s.handed
-
 -- the acts of a poll, and what it reports of them, for a partner that had done these acts, and used and transmitted
 -- these octets
 pub record IsPolled (old new : Partner) (link link' : Shown) (acts : List Act) (b written received used more : List ℕ)
     (result : Result PartnerEvent Memory) : Type 0 where
   pub further : List Act
-  -- all that could be sent before, and the acknowledgement of what was handed out, was transmitted before an octet
-  -- was used or received; and the octets kept from before were used before any was received
-  pub sent_before : 0 < length used
-      → IsPrefixOf (acknowledged_first (after (role_of old) (config_of old) acts)).out (written ++ more)
-  pub received_last : 0 < length received
-      → IsPrefixOf (acknowledged_first (after (role_of old) (config_of old) acts)).out (written ++ more)
-      × IsPrefixOf (unread_of old) used
+  -- the poll kept an order: it used octets only when all was sent and no block waited to be handed out or
+  -- acknowledged, and received octets only when also none was unused
+  pub orderly : IsOrderly (role_of old) (config_of old) (unread_of old) acts further b written received used more
   pub course : Course (role_of old) (config_of old) (acts ++ further) (b ++ used) (written ++ more)
   pub tells : Tells (role_of old) (config_of old) (after (role_of old) (config_of old) acts) further link link'
       (unread_of new) (b ++ used) (written ++ more) result

@@ -2,6 +2,7 @@ pub mod Telegrams
 pub mod States
 pub mod Acts
 pub mod Partners
+pub mod Order
 pub mod Held
 pub mod Calls
 pub mod Pieces

@@ -3,7 +3,7 @@ use Rattle.std.specs.Prelude.{◌≡◌, ℕ, ◌+◌, ◌-◌, ◌*◌, ◌<◌
 use Rattle.s7_cotp.specs.declared.tpdu.Connection.{Connection}
 use Rattle.s7_cotp.specs.Told.{CanBeWritten}
 use Rattle.s7_wire.specs.Bounds.{size_of_code}
-use Rattle.s7_wire.specs.Reads.{HasRead, HasFound, HasMessage, opens_by, size_at, held_by}
+use Rattle.s7_wire.specs.Reads.{HasRead, HasFound, HasMessage, opens_by, ended_with, size_at, held_by}
 use Rattle.s7_wire.specs.declared.found.Found.{Found}
 use Rattle.s7_wire.specs.declared.found.Found.TheVariants as finding
 use Rattle.s7_wire.specs.declared.reader.Reader.{Reader}
@@ -28,6 +28,8 @@ octets_left r = (64 - r.transport.joiner.count) * 8200 + (8199 - length (held_by
 pub record ReadsOctet (old new : Reader) (before after : List ℕ) (found : Found) : Type 0 where
   pub used : List ℕ
   pub few : length used ≤ 1
+  -- an octet is used unless the link had ended before
+  pub one : ended_with old ≡ None → 0 < length used
   pub inbox : before ≡ used ++ after
   pub finds : (b : List ℕ) → HasRead old b → HasFound new b used found
   pub opening : opens_by new ≡ opens_by old

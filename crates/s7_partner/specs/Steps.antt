@@ -14,7 +14,8 @@ use Rattle.s7_partner.specs.declared.event.PartnerEvent.{PartnerEvent}
 use Rattle.s7_partner.specs.declared.event.PartnerEvent.TheVariants as told
 use Rattle.s7_partner.specs.States.{State, Act, with_acts, after}
 use Rattle.s7_partner.specs.Acts.{AreQuiet}
-use Rattle.s7_partner.specs.Partners.{IsPrefixOf, Course, IsSettled, HasMetNotYet, Tells}
+use Rattle.s7_partner.specs.Partners.{Course, IsSettled, HasMetNotYet, Tells}
+use Rattle.s7_partner.specs.Order.{IsOrderly}
 use Rattle.s7_partner.specs.Held.{role_of, config_of, unread_of, closed_of, StandsFor}
 use Rattle.s7_partner.specs.Calls.{IsClosing as IsClosed, CountsEvent, closed_by}
 use Rattle.s7_partner.specs.Octet.{octets_left}
@@ -42,9 +43,7 @@ IsClosing (step.Closed code) = Unit {0}
 pub record HasRun (role : Role) (config : Config) (kept : List ℕ) (new : Partner) (link link' : Shown) (acts : List Act)
     (b written received used more : List ℕ) (result : Step) : Type 0 where
   pub further : List Act
-  pub sent_before : 0 < length used → IsPrefixOf (after role config acts).out (written ++ more)
-  pub received_last : 0 < length received → IsPrefixOf (after role config acts).out (written ++ more)
-      × IsPrefixOf kept used
+  pub orderly : IsOrderly role config kept acts further b written received used more
   pub course : Course role config (acts ++ further) (b ++ used) (written ++ more)
   pub tells : TellsStep role config (after role config acts) further link link' (unread_of new) (b ++ used)
       (written ++ more) result
@@ -89,9 +88,7 @@ unless_whole (Some block) work = 0
 pub record HasPolled (role : Role) (config : Config) (kept : List ℕ) (new : Partner) (link link' : Shown)
     (acts : List Act) (b written received used more : List ℕ) (result : Result PartnerEvent Memory) : Type 0 where
   pub further : List Act
-  pub sent_before : 0 < length used → IsPrefixOf (after role config acts).out (written ++ more)
-  pub received_last : 0 < length received → IsPrefixOf (after role config acts).out (written ++ more)
-      × IsPrefixOf kept used
+  pub orderly : IsOrderly role config kept acts further b written received used more
   pub course : Course role config (acts ++ further) (b ++ used) (written ++ more)
   pub tells : Tells role config (after role config acts) further link link' (unread_of new) (b ++ used)
       (written ++ more) result

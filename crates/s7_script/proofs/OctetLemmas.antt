@@ -52,7 +52,7 @@ encoded xs h k below = (decode_of-ok (encode_lower xs) xs (decode_of-encode_lowe
 
 -- ---- digits
 
-abbrev AllHex : Text → Type 0
+abbrev pub AllHex : Text → Type 0
 AllHex [] = Unit {0}
 AllHex (c ∷ cs) = (is_hex_digit c ≡ true) × AllHex cs
 
@@ -60,15 +60,27 @@ all_hex : (cs : Text) → ((k : ℕ) → k < length cs → is_hex_digit (slice_i
 all_hex [] h = tt
 all_hex (c ∷ cs) h = (h 0 (omega arith), all_hex cs (λ k below. h (suc k) (omega arith)))
 
-encoded_hex : (xs : List ℕ) → AllBytes xs → AllHex (encode_lower xs)
+pub encoded_hex : (xs : List ℕ) → AllBytes xs → AllHex (encode_lower xs)
 encoded_hex xs h = all_hex (encode_lower xs) (encoded xs h)
 
-hex_is : (c : ℕ) → is_hex_digit c ≡ true → (c ≢ 10) × (c ≢ 13) × (c ≢ 35) × (c ≢ 42) × (c ≢ 112)
-hex_is c is = (λ e. grind (arith, nat_tests), λ e. grind (arith, nat_tests), λ e. grind (arith, nat_tests), λ e. grind (arith, nat_tests), λ e. grind (arith, nat_tests))
+hex_is : (c : ℕ) → is_hex_digit c ≡ true → (c ≢ 10) × (c ≢ 13) × (c ≢ 35) × (c ≢ 42) × (c ≢ 112) × (c ≢ 32)
+hex_is c is = (
+  λ e. grind (arith, nat_tests),
+  λ e. grind (arith, nat_tests),
+  λ e. grind (arith, nat_tests),
+  λ e. grind (arith, nat_tests),
+  λ e. grind (arith, nat_tests),
+  λ e. grind (arith, nat_tests),
+)
 
-hex_plain : (cs : Text) → AllHex cs → AllPlain cs
+pub hex_plain : (cs : Text) → AllHex cs → AllPlain cs
 hex_plain [] h = tt
 hex_plain (c ∷ cs) h = let p = hex_is c h.0 in (p.0, p.1, hex_plain cs h.1)
+
+-- digits have no space
+pub hex_spaceless : (cs : Text) → AllHex cs → Lacks 32 cs
+hex_spaceless [] h = tt
+hex_spaceless (c ∷ cs) h = ((hex_is c h.0).5, hex_spaceless cs h.1)
 
 hex_lacks : (cs : Text) → AllHex cs → Lacks 42 cs
 hex_lacks [] h = tt

@@ -8,6 +8,7 @@ pub mod Tagged
 pub mod ScriptShown
 pub mod Sends
 pub mod SendsShown
+pub mod SendSpelling
 pub mod Printing
 pub mod TagPrinting
 pub mod Laws

@@ -1,5 +1,6 @@
 //! Laws of area files, of printing and of scripts.
 ghost use Rattle.s7_script.specs.Laws.{AreasMigrate, EndsPrint, ScriptsKeepLinks};
+ghost use Rattle.s7_script.specs.SendSpelling.{SendsReadBack};
 
 use s7_area::areas_join;
 
@@ -19,4 +20,10 @@ pub fn ends_print()
 /// A law: no line of a script connects or disconnects.
 pub fn scripts_keep_links()
     ensures { ScriptsKeepLinks }
+{}
+
+/// A law: the text that is written for blocks of 1 to 65,535 octets is read as these blocks, and each block that a sends
+/// file names is one for which a text can be written. So what was read, once written, is read again as the same blocks.
+pub fn sends_read_back()
+    ensures { SendsReadBack }
 {}

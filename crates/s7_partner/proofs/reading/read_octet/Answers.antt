@@ -21,6 +21,8 @@ returns c =
     ∙ ap (λ (xs : List ℕ). take t.result.octets (take 1 c.args.inbox.now) ++ xs) (sym c.advance.ensures)) in
     reads_octet c.args.reader.now t.new.self c.args.inbox.now c.advance.new.self used t.result.found few inbox
     t.ensures.found t.ensures.opening c.requires.read
+    (λ going.
+    omega (arith, length-take-le t.result.octets octets t.ensures.taken, t.ensures.some going (omega (arith, len))))
     (λ e.
     let going = more_going c.args.reader.now t.result.found
     (λ end h. ap (λ (x : Taken). x.found) (t.ensures.ended end h).0) e in

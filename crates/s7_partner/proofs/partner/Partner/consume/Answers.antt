@@ -9,7 +9,7 @@ use Rattle.s7_partner.proofs.partner.Partner.consume.Goals as goal
 pub returns-in-More-clause-runs : goal.returns-in-More-clause-runs
 returns-in-More-clause-runs c = λ link.
     let old = c.args.self.now in
-    runs_more old _ link c.requires.live
+    runs_more old _ link c.requires.live c.requires.none_whole c.requires.none_handed
     (record {
       role = refl;
       config = refl;

@@ -20,4 +20,4 @@ returns g c =
     let k' = g.L.Link.shows c.advance.new.link in
     let live : closed_of c.args.self.now ≡ None = search rules in
     poll_behind c.args.self.now c.acknowledge.new.self c.advance.new.self k k' c.advance.result live
-    c.acknowledge.ensures.handed c.acknowledge.ensures.acknowledges c.advance.ensures
+    c.acknowledge.ensures.acknowledges c.advance.ensures

@@ -23,7 +23,7 @@ returns-in-Bytes-clause-runs g c =
       whole = refl;
       handed = refl;
     })
-    c.in-Bytes.ensures.sent
+    c.in-Bytes.ensures.sent (c.in-Bytes.ensures.some c.in-Bytes.field-0 refl).1
     (record {
       wrote = c.in-Bytes.ensures.wrote;
       space = c.in-Bytes.ensures.space;
@@ -110,8 +110,10 @@ returns-in-Bytes-refill-clause-runs g c =
         handed = refl;
       };
     })
+    c.requires.none_whole c.requires.none_handed
     (empty_of c.args.self.now.inbox c.is_empty-2.result c.is_empty-2.ensures c.if-not-is_empty-2.false)
     (empty_of c.args.self.now.outbox.unsent c.is_empty.result c.is_empty.ensures c.if-not-is_empty.false)
+    (c.in-Bytes-refill.ensures.some c.in-Bytes-refill.field-0 refl).1
     (record {
       took = c.refill.ensures.took;
       same = c.refill.ensures.same;
