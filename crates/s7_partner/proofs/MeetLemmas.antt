@@ -4,7 +4,7 @@ use Rattle.std.specs.Prelude.{Result, Ok, Err}
 use Rattle.s7_outer.specs.Shown.{Shown}
 use Rattle.s7_outer.specs.Count.{RoseExactly}
 use Rattle.s7_outer.specs.declared.memory.Memory.{Memory}
-use Rattle.s7_client.specs.Counts.{MetNothing, MetNotYetOnce, MetAsTold}
+use Rattle.s7_client.specs.Counts.{MetNothing, MetNotYetOnce}
 use Rattle.s7_client.proofs.CountLemmas.{met_behind}
 use Rattle.s7_partner.specs.declared.event.PartnerEvent.{PartnerEvent}
 use Rattle.s7_partner.specs.declared.event.PartnerEvent.TheVariants as told

@@ -165,13 +165,7 @@ four_whole n = omega arith
 
 four_bytes : (n : ℕ) → n < 4294967296 → IsBytes (four_octets n)
 four_bytes n low =
-    is_bytes (four_octets n) (
-      omega (arith, low),
-      omega arith,
-      omega arith,
-      omega arith,
-      tt,
-    )
+    is_bytes (four_octets n) (omega (arith, low), (omega arith, (omega arith, (omega arith, tt))))
 
 number_back : (n : ℕ) → n < 4294967296 → four_octets_in (decode_of (encode_lower (four_octets n))) ≡ Ok n
 number_back n low =
@@ -201,8 +195,13 @@ body_back : (s : Send) → IsSendable s → with_hex s.rid (Some (encode_lower s
 body_back s h =
     let text = encode_lower s.body in
     let lacks = octets_spaceless s.body h.octets in
-    rw (last_field text lacks, no_rest text lacks, some_text s.body h.some, decode_of-encode_lower s.body h.octets,
-    le-leb (length s.body) 65535 h.most) refl
+    rw (
+      last_field text lacks,
+      no_rest text lacks,
+      some_text s.body h.some,
+      decode_of-encode_lower s.body h.octets,
+      le-leb (length s.body) 65535 h.most,
+    ) refl
 
 block_back : (s : Send) → IsSendable s
     → block_sent (Some (encode_lower (four_octets s.rid) ++ 32 ∷ encode_lower s.body)) ≡ Ok s
@@ -228,7 +227,7 @@ send_plain : (s : Send) → IsSendable s → AllPlain (send_text s)
 send_plain s h =
     plain-append (codes "send ") _ (plain_by_test (codes "send ") refl)
     (plain-append (encode_lower (four_octets s.rid)) _
-    (hex_plain _ (encoded_hex (four_octets s.rid) (bytes_of _ (four_bytes s.rid h.numbered))))
+    (hex_plain _ (encoded_hex (four_octets s.rid) (bytes_of (four_octets s.rid) (four_bytes s.rid h.numbered))))
     (λ e. cc, λ e. cc, hex_plain _ (encoded_hex s.body (bytes_of s.body h.octets))))
 
 line_back : (line : ℕ) (s : Send) → IsSendable s

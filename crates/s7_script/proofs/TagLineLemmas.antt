@@ -1,5 +1,5 @@
 -- The octets of values that lines put.
-use Rattle.std.proofs.Common.{◌≡◌, ◌∙◌, ℕ, List, [], ◌∷◌, ◌++◌, length, take, drop, Result, Ok, Err, ap, sym, refl, subst}
+use Rattle.std.proofs.Common.{◌≡◌, ◌∙◌, ℕ, List, length, take, drop, Result, Ok, Err, ap, sym}
 use Rattle.std.proofs.Math.Seq.{take-append_seam}
 use Rattle.s7_symbol.specs.Values.{PutsSaid}
 use Rattle.s7_symbol.specs.declared.fault.ValueFault.{ValueFault}

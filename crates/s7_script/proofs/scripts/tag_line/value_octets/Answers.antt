@@ -1,4 +1,4 @@
-use Rattle.std.proofs.Common.{◌≡◌, ◌∙◌, ap, sym, subst, Ok}
+use Rattle.std.proofs.Common.{◌∙◌, ap, sym, subst, Ok}
 use Rattle.s7_symbol.specs.Values.{PutsSaid, octets_said}
 use Rattle.s7_script.proofs.TagLineLemmas.{value_put}
 use Rattle.s7_script.proofs.scripts.tag_line.value_octets.Goals as goal
