@@ -10,7 +10,6 @@ use s7_plant::{Ask, BODY_ROOM, Book, Reply, Request, Tail};
 use s7_turn::{Hall, Seat};
 use std::alloc::Global;
 use std::sync::Wait;
-use std::test::Fail;
 use std::thread::{Threads, join_mut};
 
 /// A hall with a book whose journal takes `limit` entries, and the hall's first seat.
@@ -113,9 +112,8 @@ fn is_served<R: Wait>(rt: &R, alloc: Global) -> Option<bool> {
 
 /// A hall enters a write in its book.
 #[test]
-fn a_hall_serves_a_book(rt: HostRuntime) -> Result<(), Fail> {
-    assert!(rt; is_served(&rt, rt.alloc()).unwrap_or(false));
-    Ok(())
+fn a_hall_serves_a_book(rt: HostRuntime) {
+    assert!(rt; is_served(&rt, rt.alloc()) == Some(true));
 }
 
 /// Two seats read once each, in two threads, and neither is held up. The results are those of `is_first`.
@@ -170,7 +168,6 @@ fn is_refused<R: Threads + Wait + Sync>(rt: &R, alloc: Global) -> Option<bool> {
 
 /// A book that takes one entry refuses one of two reads.
 #[test]
-fn a_full_book_refuses_one_of_two(rt: HostRuntime) -> Result<(), Fail> {
-    assert!(rt; is_refused(&rt, rt.alloc()).unwrap_or(false));
-    Ok(())
+fn a_full_book_refuses_one_of_two(rt: HostRuntime) {
+    assert!(rt; is_refused(&rt, rt.alloc()) == Some(true));
 }

@@ -26,6 +26,8 @@ mod relays;
 #[cfg(test)]
 mod requests;
 #[cfg(test)]
+mod rows;
+#[cfg(test)]
 mod sessions;
 #[cfg(test)]
 mod tails;

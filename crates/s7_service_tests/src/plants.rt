@@ -4,16 +4,16 @@ ghost use Rattle.s7_area.specs.Guards.{IsGuard};
 
 use crate::fields::{add_octets, code, field, is, kind, number, octets, part};
 use crate::requests::{can_be_done, is_kept, is_ready, request_of};
+use crate::rows::all_lines_hold;
 use crate::{areas, blocks, control};
 use s7_area::{AreaKey, Areas, Guard};
 use s7_block::{Block, Blocks};
 use s7_outer::Octets;
 use s7_plant::{BODY_ROOM, Plant, Reply, Request};
 use std::alloc::Global;
-use std::test::Fail;
 
-/// Fails unless a plant that was given some rows meets these rows. A row changes the plant, makes a request, or states
-/// what the plant shows, as `shows` describes.
+/// The first row that a plant doesn't meet after it was given the others, `None` if it meets all. A row changes the
+/// plant, makes a request, or states what the plant shows, as `shows` describes.
 ///
 ///     area AREA NUMBER OCTETS       registers an area
 ///     block KIND NUMBER IMAGE       loads a block
@@ -25,14 +25,6 @@ use std::test::Fail;
 ///     any REQUEST | ANSWER          the same without the right
 ///
 /// An answer is an error word, parameters and a body.
-fn does(alloc: Global, given: &str, rows: &str) -> Result<(), Fail> {
-    match unmet_by(alloc, given, rows) {
-        Some(row) => Err(Fail::new(row)),
-        None => Ok(()),
-    }
-}
-
-/// The first row that a plant doesn't meet after it was given the others, `None` if it meets all.
 fn unmet_by<'a>(alloc: Global, given: &'a str, rows: &'a str) -> Option<&'a str> {
     match a_plant(alloc, given) {
         Some(mut plant) => unmet(alloc, &mut plant, rows),
@@ -276,11 +268,19 @@ const PLANTS: &[(&str, &str)] = &[
     (areas::AREAS, control::CLOCKS),
 ];
 
+/// The first row that a plant of the tests doesn't meet, `None` if all meet theirs.
+fn unmet_by_any(alloc: Global, tests: &[(&'static str, &'static str)]) -> Option<&'static str> {
+    for (given, rows) in tests {
+        let unmet = unmet_by(alloc, given, rows);
+        if unmet.is_some() {
+            return unmet;
+        }
+    }
+    None
+}
+
 /// Each plant meets its rows.
 #[test]
-fn plants_meet_their_rows(rt: HostRuntime) -> Result<(), Fail> {
-    for (given, rows) in PLANTS {
-        does(rt.alloc(), given, rows)?;
-    }
-    Ok(())
+fn plants_meet_their_rows(rt: HostRuntime) {
+    all_lines_hold(&rt, unmet_by_any(rt.alloc(), PLANTS));
 }

@@ -1,8 +1,9 @@
-// Links over windows on another server: what each telegram is answered, what is asked far, and what is kept.
+//! Links over windows on another server: what each telegram is answered, what is asked far, and what is kept.
 ghost use Rattle.std.specs.Prelude.{IfSome};
 ghost use Rattle.std.specs.Str.{IsUtf8};
 
-use crate::fields::{is, octets};
+use crate::fields::{field, hex_number, is, octets};
+use crate::rows::all_hold;
 use crate::sessions::{
     CONFIRM, CONNECT, GRANTED, Line, READ, READ_ANSWER, READ_FULL, SETUP, STOP, a_line, is_written,
     octets_of,
@@ -16,7 +17,6 @@ use s7_relay::{Passage, RelayDoer, Relayed, read_windows};
 use s7_session::{Outcome, Session};
 use std::alloc::Global;
 use std::sync::Wait;
-use std::test::Fail;
 use std::time::Clock;
 
 /// Data block 1 is a part of the far data block 7.
@@ -124,7 +124,7 @@ const NO_FUNCTION: &str = "32020000000D000000008104";
 
 /// A link whose doer keeps so many telegrams: its windows, what the far link gives if there is one, what becomes of the
 /// far link's calls, what the near link asks and is answered, what is asked far, and how far each telegram got that is
-/// kept.
+/// kept, as `is_passed` describes.
 struct Row {
     windows: &'static str,
     limit: u64,
@@ -133,7 +133,7 @@ struct Row {
     asked: &'static [&'static str],
     answered: &'static [&'static str],
     asked_far: &'static [&'static str],
-    kept: &'static [Got],
+    kept: &'static [&'static str],
 }
 
 /// A doer over a dial in memory.
@@ -185,31 +185,14 @@ fn a_talk(alloc: Global, row: &Row) -> Option<Talk> {
     Some(Talk { near, doer })
 }
 
-/// How serving the near link ends. Nothing is promised of it.
-fn serve<R: Wait + Clock>(rt: &R, alloc: Global, talk: &mut Talk) -> Option<Outcome> {
-    let mut session = Session::new(alloc, 1, None).ok()?;
-    Some(session.serve(rt, alloc, &mut talk.near, &mut talk.doer))
-}
-
-/// How far a telegram got, by what the far connect and the far job gave.
-enum Got {
-    /// It was answered near.
-    Near,
-    /// The dial failed.
-    Undialled,
-    /// The connect ended with this code.
-    Unconnected(u32),
-    /// The client was connected for it, and it isn't asked.
-    Unpacked,
-    /// Whether the client was connected for it; the code of the job, the codes of its items, and its octets.
-    Asked(bool, u32, &'static str, &'static str),
-}
-
-/// Items that are asked for, and the octets to write to them, joined.
-#[derive(Drop)]
-struct Asked {
-    items: Vec<Item>,
-    octets: Vec<u8>,
+/// Whether serving the near link ends without a fault. Nothing is promised of it.
+fn is_served<R: Wait + Clock>(rt: &R, alloc: Global, talk: &mut Talk) -> bool {
+    match Session::new(alloc, 1, None) {
+        Ok(mut session) => {
+            session.serve(rt, alloc, &mut talk.near, &mut talk.doer) == Outcome::Ended
+        }
+        Err(_) => false,
+    }
 }
 
 /// The parameters of a message whose head is this long, and its data.
@@ -229,74 +212,133 @@ fn joined(alloc: Global, places: &[DataPlace], octets: &[u8]) -> Option<Vec<u8>>
     Some(all)
 }
 
-/// What a telegram asks for; `None` if it is neither a read nor a write.
-fn asked_in(alloc: Global, telegram: &str) -> Option<Asked> {
-    let message = octets(alloc, telegram)?;
-    let (params, data) = parts_of(message.as_slice(), 10)?;
-    let mut items = Items::new();
-    read_items(params, &mut items).ok()?;
-    let mut places = DataItems::new();
-    if !data.is_empty() {
-        read_data_items(data, items.len(), &mut places).ok()?;
+/// Whether the octets at these places, joined, are those that were found.
+fn are_joined(alloc: Global, places: &[DataPlace], octets: &[u8], found: &[u8]) -> bool {
+    match joined(alloc, places, octets) {
+        Some(all) => all.as_slice() == found,
+        None => false,
     }
-    Some(Asked {
-        items: items.as_slice().to_vec(alloc).ok()?,
-        octets: joined(alloc, places.as_slice(), data)?,
-    })
 }
 
-/// What a request asks for; `None` if it is neither a read nor a write.
-fn asked_by(alloc: Global, request: &Request) -> Option<Asked> {
+/// Whether the data of a message writes these octets to so many items; data of no octet writes none.
+fn is_data(alloc: Global, data: &[u8], count: usize, found: &[u8]) -> bool {
+    if data.is_empty() || count > 20 {
+        return data.is_empty() && found.is_empty();
+    }
+    let mut places = DataItems::new();
+    read_data_items(data, count, &mut places).is_ok()
+        && are_joined(alloc, places.as_slice(), data, found)
+}
+
+/// Whether parameters state items.
+fn state_items(params: &[u8]) -> bool {
+    read_items(params, &mut Items::new()).is_ok()
+}
+
+/// Whether parameters state these items.
+fn are_items(params: &[u8], found: &[Item]) -> bool {
+    let mut items = Items::new();
+    read_items(params, &mut items).is_ok() && items.as_slice() == found
+}
+
+/// The parameters of a message, and its data.
+type Parts<'a> = (&'a [u8], &'a [u8]);
+
+/// Whether a message asks for these items, and writes these octets to them.
+fn is_asked(alloc: Global, parts: Parts<'_>, items: &[Item], octets: &[u8]) -> bool {
+    let (params, data) = parts;
+    are_items(params, items) && is_data(alloc, data, items.len(), octets)
+}
+
+/// Whether a message asks for these items, and writes the octets at these places to them.
+fn is_asked_at(
+    alloc: Global,
+    parts: Parts<'_>,
+    items: &[Item],
+    places: &[DataPlace],
+    octets: &[u8],
+) -> bool {
+    match joined(alloc, places, octets) {
+        Some(all) => is_asked(alloc, parts, items, all.as_slice()),
+        None => false,
+    }
+}
+
+/// Whether a request asks for what a message does. What is neither a read nor a write states no items.
+fn is_request(alloc: Global, request: &Request, parts: Parts<'_>) -> bool {
     match request {
-        Request::Read { items } => Some(Asked {
-            items: items.as_slice().to_vec(alloc).ok()?,
-            octets: Vec::new(alloc),
-        }),
+        Request::Read { items } => is_asked(alloc, parts, items.as_slice(), &[]),
         Request::Write {
             items,
             places,
             octets,
-        } => Some(Asked {
-            items: items.as_slice().to_vec(alloc).ok()?,
-            octets: joined(alloc, places.list().as_slice(), octets.as_slice())?,
-        }),
-        _ => None,
+        } => is_asked_at(
+            alloc,
+            parts,
+            items.as_slice(),
+            places.list().as_slice(),
+            octets.as_slice(),
+        ),
+        _ => !state_items(parts.0),
     }
 }
 
-/// What a far job asks for; `None` if it is neither a read nor a write.
-fn asked_far_by(alloc: Global, job: &Job) -> Option<Asked> {
+/// Whether a far job asks for what a message does.
+fn is_far_request(alloc: Global, job: &Job, parts: Parts<'_>) -> bool {
     match job {
-        Job::ReadMany { items } => Some(Asked {
-            items: items.as_slice().to_vec(alloc).ok()?,
-            octets: Vec::new(alloc),
-        }),
-        Job::WriteMany { items, octets } => Some(Asked {
-            items: items.as_slice().to_vec(alloc).ok()?,
-            octets: octets.as_slice().to_vec(alloc).ok()?,
-        }),
-        _ => None,
-    }
-}
-
-/// Whether the same is asked for.
-fn are_same(one: &Option<Asked>, other: &Option<Asked>) -> bool {
-    match (one, other) {
-        (Some(one), Some(other)) => {
-            one.items.as_slice() == other.items.as_slice()
-                && one.octets.as_slice() == other.octets.as_slice()
+        Job::ReadMany { items } => is_asked(alloc, parts, items.as_slice(), &[]),
+        Job::WriteMany { items, octets } => {
+            is_asked(alloc, parts, items.as_slice(), octets.as_slice())
         }
-        (None, None) => true,
         _ => false,
     }
 }
 
-/// Whether a reply is this answer.
-fn is_answer(alloc: Global, reply: &Reply, answer: &str) -> Option<bool> {
-    let message = octets(alloc, answer)?;
-    let (params, data) = parts_of(message.as_slice(), 12)?;
+/// Whether a request asks for what a message of these octets does.
+fn is_request_in(alloc: Global, request: &Request, message: &[u8]) -> bool {
+    match parts_of(message, 10) {
+        Some(parts) => is_request(alloc, request, parts),
+        None => false,
+    }
+}
+
+/// Whether a request asks for what a telegram does.
+fn is_request_of(alloc: Global, request: &Request, telegram: &str) -> bool {
+    match octets(alloc, telegram) {
+        Some(message) => is_request_in(alloc, request, message.as_slice()),
+        None => false,
+    }
+}
+
+/// Whether a far job asks for what a message of these octets does.
+fn is_far_request_in(alloc: Global, job: &Job, message: &[u8]) -> bool {
+    match parts_of(message, 10) {
+        Some(parts) => is_far_request(alloc, job, parts),
+        None => false,
+    }
+}
+
+/// Whether a far job asks for what a telegram does.
+fn is_far_request_of(alloc: Global, job: &Job, telegram: &str) -> bool {
+    match octets(alloc, telegram) {
+        Some(message) => is_far_request_in(alloc, job, message.as_slice()),
+        None => false,
+    }
+}
+
+/// Whether a reply has the error word, the parameters and the data of a message of these octets.
+fn is_reply(reply: &Reply, message: &[u8]) -> Option<bool> {
+    let (params, data) = parts_of(message, 12)?;
     let error = u16::from_be_bytes([*message.get(10)?, *message.get(11)?]);
     Some(reply.error == error && reply.params.as_slice() == params && reply.body.as_slice() == data)
+}
+
+/// Whether a reply is this answer.
+fn is_answer(alloc: Global, reply: &Reply, answer: &str) -> bool {
+    match octets(alloc, answer) {
+        Some(message) => is_reply(reply, message.as_slice()) == Some(true),
+        None => false,
+    }
 }
 
 /// Whether a connect ended with this code.
@@ -315,32 +357,44 @@ fn is_connected(connect: &Option<JobResult>, wanted: bool) -> bool {
     }
 }
 
-/// Whether a far job asked for what this telegram does, and ended with these codes and octets.
-fn is_job(alloc: Global, job: &JobResult, telegram: &str, wanted: &Got) -> Option<bool> {
-    let Got::Asked(_, code, codes, octets) = wanted else {
-        return None;
-    };
-    let found = job.codes.get(..usize::from(job.count))?;
-    Some(
-        job.code == *code
-            && is(alloc, found, codes)
-            && is(alloc, job.octets.as_slice(), octets)
-            && are_same(&asked_far_by(alloc, &job.job), &asked_in(alloc, telegram)),
-    )
+/// Whether the codes of so many items are those that a text states.
+fn are_codes(alloc: Global, codes: &[u8], count: u8, wanted: &str) -> bool {
+    match codes.get(..usize::from(count)) {
+        Some(found) => is(alloc, found, wanted),
+        None => false,
+    }
+}
+
+/// Whether a far job asked for what this telegram does, and ended with the codes and octets that are wanted.
+fn is_job(alloc: Global, job: &JobResult, wanted: &str, telegram: &str) -> bool {
+    job.code == hex_number(field(wanted, 2))
+        && are_codes(alloc, &job.codes, job.count, field(wanted, 3))
+        && is(alloc, job.octets.as_slice(), field(wanted, 4))
+        && is_far_request_of(alloc, &job.job, telegram)
 }
 
 /// Whether a telegram got as far as wanted. If it was asked far, then as this telegram.
-fn is_passed(alloc: Global, passage: &Passage, wanted: &Got, telegram: &str) -> Option<bool> {
-    match (passage, wanted) {
-        (Passage::Near, Got::Near) | (Passage::Undialled, Got::Undialled) => Some(true),
-        (Passage::Unconnected { connect }, Got::Unconnected(code)) => {
-            Some(is_connect(connect, *code))
+///
+///     near                              it was answered near
+///     undialled                         the dial failed
+///     unconnected CODE                  the connect ended with this code
+///     unpacked                          the client was connected for it, and it isn't asked
+///     asked new CODE CODES OCTETS       the client was connected for it: the code of the job, the codes of its items,
+///                                       and its octets
+///     asked old CODE CODES OCTETS       the same, and the client had been connected before
+fn is_passed(alloc: Global, passage: &Passage, wanted: &str, telegram: &str) -> bool {
+    match passage {
+        Passage::Near => wanted == "near",
+        Passage::Undialled => wanted == "undialled",
+        Passage::Unconnected { connect } => {
+            field(wanted, 0) == "unconnected" && is_connect(connect, hex_number(field(wanted, 1)))
         }
-        (Passage::Unpacked { connect }, Got::Unpacked) => Some(is_connected(connect, true)),
-        (Passage::Asked { connect, job }, Got::Asked(connected, ..)) => Some(
-            is_connected(connect, *connected) && is_job(alloc, job, telegram, wanted)?,
-        ),
-        _ => Some(false),
+        Passage::Unpacked { connect } => wanted == "unpacked" && is_connected(connect, true),
+        Passage::Asked { connect, job } => {
+            field(wanted, 0) == "asked"
+                && is_connected(connect, field(wanted, 1) == "new")
+                && is_job(alloc, job, wanted, telegram)
+        }
     }
 }
 
@@ -357,27 +411,32 @@ fn is_kept(
     nth: usize,
     nth_far: usize,
 ) -> Option<bool> {
-    let asked = asked_in(alloc, telegram_of(row.asked, nth)?);
+    let asked = telegram_of(row.asked, nth)?;
+    let answered = telegram_of(row.answered, nth)?;
+    let wanted = *row.kept.get(nth)?;
     let asked_far = telegram_of(row.asked_far, nth_far).unwrap_or("-");
     Some(
-        are_same(&asked_by(alloc, &relayed.ask.request), &asked)
-            && is_answer(alloc, &relayed.reply, telegram_of(row.answered, nth)?)?
-            && is_passed(alloc, &relayed.passage, row.kept.get(nth)?, asked_far)?,
+        is_request_of(alloc, &relayed.ask.request, asked)
+            && is_answer(alloc, &relayed.reply, answered)
+            && is_passed(alloc, &relayed.passage, wanted, asked_far),
     )
 }
 
-/// The telegrams that are kept are those of the row.
-fn are_kept(alloc: Global, kept: &[Relayed], row: &Row) -> Option<bool> {
+/// Whether a telegram was asked far.
+fn is_far(relayed: &Relayed) -> bool {
+    matches!(relayed.passage, Passage::Asked { .. })
+}
+
+/// Whether the telegrams that are kept are those of the row.
+fn are_kept(alloc: Global, kept: &[Relayed], row: &Row) -> bool {
     let mut nth_far = 0usize;
     for (nth, relayed) in kept.iter().enumerate() {
-        if !is_kept(alloc, relayed, row, nth, nth_far)? {
-            return Some(false);
+        if is_kept(alloc, relayed, row, nth, nth_far) != Some(true) {
+            return false;
         }
-        if matches!(relayed.passage, Passage::Asked { .. }) {
-            nth_far = nth_far.saturating_add(1);
-        }
+        nth_far = nth_far.saturating_add(usize::from(is_far(relayed)));
     }
-    Some(kept.len() == row.kept.len())
+    kept.len() == row.kept.len()
 }
 
 /// What was asked over the link that was dialled last is this; nothing if none was dialled.
@@ -388,16 +447,19 @@ fn is_asked_far(alloc: Global, doer: &Relay, asked: &[&str]) -> bool {
     }
 }
 
-/// The link of a row is served as the row says.
-fn goes<R: Wait + Clock>(rt: &R, alloc: Global, row: &Row) -> Option<bool> {
-    let mut talk = a_talk(alloc, row)?;
-    let outcome = serve(rt, alloc, &mut talk)?;
-    Some(
-        outcome == Outcome::Ended
-            && is_written(alloc, &talk.near, row.answered)
-            && is_asked_far(alloc, &talk.doer, row.asked_far)
-            && are_kept(alloc, talk.doer.kept(), row)?,
-    )
+/// Whether a talk left what a row says.
+fn is_left(alloc: Global, talk: &Talk, row: &Row) -> bool {
+    is_written(alloc, &talk.near, row.answered)
+        && is_asked_far(alloc, &talk.doer, row.asked_far)
+        && are_kept(alloc, talk.doer.kept(), row)
+}
+
+/// Whether the link of a row is served as the row says.
+fn goes<R: Wait + Clock>(rt: &R, alloc: Global, row: &Row) -> bool {
+    match a_talk(alloc, row) {
+        Some(mut talk) => is_served(rt, alloc, &mut talk) && is_left(alloc, &talk, row),
+        None => false,
+    }
 }
 
 /// What becomes of the telegrams of links.
@@ -411,7 +473,7 @@ const LINKS: &[Row] = &[
         asked: &[CONNECT, SETUP, READ],
         answered: &[CONFIRM, GRANTED, READ_ANSWER],
         asked_far: &[CONNECT, FAR_SETUP, FAR_READ],
-        kept: &[Got::Asked(true, 0, "FF", "11223344")],
+        kept: &["asked new 00000000 FF 11223344"],
     },
     // Two reads are asked over one far link.
     Row {
@@ -423,8 +485,8 @@ const LINKS: &[Row] = &[
         answered: &[CONFIRM, GRANTED, READ_ANSWER, READ_ANSWER],
         asked_far: &[CONNECT, FAR_SETUP, FAR_READ, NEXT_FAR_READ],
         kept: &[
-            Got::Asked(true, 0, "FF", "11223344"),
-            Got::Asked(false, 0, "FF", "11223344"),
+            "asked new 00000000 FF 11223344",
+            "asked old 00000000 FF 11223344",
         ],
     },
     // The far link ends there, and the next read dials again, in vain.
@@ -436,7 +498,7 @@ const LINKS: &[Row] = &[
         asked: &[CONNECT, SETUP, READ, READ],
         answered: &[CONFIRM, GRANTED, NO_LINK, NO_LINK],
         asked_far: &[CONNECT, FAR_SETUP, FAR_READ],
-        kept: &[Got::Asked(true, 0x0002_0000, "-", "-"), Got::Undialled],
+        kept: &["asked new 00020000 - -", "undialled"],
     },
     // A write is asked far with its octets.
     Row {
@@ -447,7 +509,7 @@ const LINKS: &[Row] = &[
         asked: &[CONNECT, SETUP, WRITE],
         answered: &[CONFIRM, GRANTED, WRITTEN],
         asked_far: &[CONNECT, FAR_SETUP, FAR_WRITE],
-        kept: &[Got::Asked(true, 0, "FF", "-")],
+        kept: &["asked new 00000000 FF -"],
     },
     // The far code 00 stands near without a transport size.
     Row {
@@ -458,7 +520,7 @@ const LINKS: &[Row] = &[
         asked: &[CONNECT, SETUP, READ],
         answered: &[CONFIRM, GRANTED, READ_ANSWER_00],
         asked_far: &[CONNECT, FAR_SETUP, FAR_READ],
-        kept: &[Got::Asked(true, 0, "00", "-")],
+        kept: &["asked new 00000000 00 -"],
     },
     // An item that no window has doesn't travel, and the far code stands at the place of the item that did.
     Row {
@@ -469,7 +531,7 @@ const LINKS: &[Row] = &[
         asked: &[CONNECT, SETUP, READ_BOTH],
         answered: &[CONFIRM, GRANTED, BOTH_ANSWER],
         asked_far: &[CONNECT, FAR_SETUP, FAR_READ],
-        kept: &[Got::Asked(true, 0, "FF", "11223344")],
+        kept: &["asked new 00000000 FF 11223344"],
     },
     // What asks for no item of a window doesn't dial.
     Row {
@@ -480,7 +542,7 @@ const LINKS: &[Row] = &[
         asked: &[CONNECT, SETUP, READ_2, STOP],
         answered: &[CONFIRM, GRANTED, READ_2_ANSWER, NO_FUNCTION],
         asked_far: &[],
-        kept: &[Got::Near, Got::Near],
+        kept: &["near", "near"],
     },
     // There is no far server.
     Row {
@@ -491,7 +553,7 @@ const LINKS: &[Row] = &[
         asked: &[CONNECT, SETUP, READ],
         answered: &[CONFIRM, GRANTED, NO_LINK],
         asked_far: &[],
-        kept: &[Got::Undialled],
+        kept: &["undialled"],
     },
     // The far link ends before the connect is confirmed.
     Row {
@@ -502,7 +564,7 @@ const LINKS: &[Row] = &[
         asked: &[CONNECT, SETUP, READ],
         answered: &[CONFIRM, GRANTED, NO_LINK],
         asked_far: &[CONNECT],
-        kept: &[Got::Unconnected(0x0002_0000)],
+        kept: &["unconnected 00020000"],
     },
     // The far link fails in its first call, and isn't ready in any of 50 polls.
     Row {
@@ -513,7 +575,7 @@ const LINKS: &[Row] = &[
         asked: &[CONNECT, SETUP, READ],
         answered: &[CONFIRM, GRANTED, NO_LINK],
         asked_far: &[],
-        kept: &[Got::Unconnected(0x0009_0000)],
+        kept: &["unconnected 00090000"],
     },
     Row {
         windows: WINDOWS,
@@ -523,7 +585,7 @@ const LINKS: &[Row] = &[
         asked: &[CONNECT, SETUP, READ],
         answered: &[CONFIRM, GRANTED, NO_ANSWER],
         asked_far: &[],
-        kept: &[Got::Unconnected(0x0200_0000)],
+        kept: &["unconnected 02000000"],
     },
     // The far server grants a PDU of 64, for which the read is short enough.
     Row {
@@ -534,7 +596,7 @@ const LINKS: &[Row] = &[
         asked: &[CONNECT, SETUP, READ],
         answered: &[CONFIRM, GRANTED, READ_ANSWER],
         asked_far: &[CONNECT, FAR_SETUP, FAR_READ],
-        kept: &[Got::Asked(true, 0, "FF", "11223344")],
+        kept: &["asked new 00000000 FF 11223344"],
     },
     // A read whose answer is longer than the PDU that the far server grants isn't asked.
     Row {
@@ -545,7 +607,7 @@ const LINKS: &[Row] = &[
         asked: &[CONNECT, SETUP, READ_60],
         answered: &[CONFIRM, GRANTED, TOO_LONG],
         asked_far: &[CONNECT, FAR_SETUP],
-        kept: &[Got::Unpacked],
+        kept: &["unpacked"],
     },
     // The far answer has another sequence.
     Row {
@@ -556,7 +618,7 @@ const LINKS: &[Row] = &[
         asked: &[CONNECT, SETUP, READ],
         answered: &[CONFIRM, GRANTED, FAR_FAULT],
         asked_far: &[CONNECT, FAR_SETUP, FAR_READ],
-        kept: &[Got::Asked(true, 0x0080_0000, "-", "-")],
+        kept: &["asked new 00800000 - -"],
     },
     // A far answer in 64 fragments is read, and the 65th fragment is a fault.
     Row {
@@ -567,7 +629,7 @@ const LINKS: &[Row] = &[
         asked: &[CONNECT, SETUP, READ],
         answered: &[CONFIRM, GRANTED, READ_ANSWER],
         asked_far: &[CONNECT, FAR_SETUP, FAR_READ],
-        kept: &[Got::Asked(true, 0, "FF", "11223344")],
+        kept: &["asked new 00000000 FF 11223344"],
     },
     Row {
         windows: WINDOWS,
@@ -577,7 +639,7 @@ const LINKS: &[Row] = &[
         asked: &[CONNECT, SETUP, READ],
         answered: &[CONFIRM, GRANTED, FAR_FAULT],
         asked_far: &[CONNECT, FAR_SETUP, FAR_READ],
-        kept: &[Got::Asked(true, 0x0007_0000, "-", "-")],
+        kept: &["asked new 00070000 - -"],
     },
     // Two near areas are far parts that share octets.
     Row {
@@ -588,7 +650,7 @@ const LINKS: &[Row] = &[
         asked: &[CONNECT, SETUP, READ_SHARED],
         answered: &[CONFIRM, GRANTED, SHARED_ANSWER],
         asked_far: &[CONNECT, FAR_SETUP, FAR_READ_SHARED],
-        kept: &[Got::Asked(true, 0, "FFFF", "1122334433445566")],
+        kept: &["asked new 00000000 FFFF 1122334433445566"],
     },
     // Every other one of twenty items travels. The last far item is the last near one, and isn't padded.
     Row {
@@ -599,7 +661,7 @@ const LINKS: &[Row] = &[
         asked: &[CONNECT, LONG_SETUP, READ_20],
         answered: &[CONFIRM, LONG_GRANTED, ANSWER_20],
         asked_far: &[CONNECT, FAR_SETUP, FAR_READ_10],
-        kept: &[Got::Asked(true, 0, "FF*10", "AA*10")],
+        kept: &["asked new 00000000 FF*10 AA*10"],
     },
     // A write that would need two telegrams isn't asked.
     Row {
@@ -610,7 +672,7 @@ const LINKS: &[Row] = &[
         asked: &[CONNECT, SETUP, WRITE_TWO],
         answered: &[CONFIRM, GRANTED, WRITE_TOO_LONG],
         asked_far: &[CONNECT, FAR_SETUP],
-        kept: &[Got::Unpacked],
+        kept: &["unpacked"],
     },
     // The far server refuses the negotiation.
     Row {
@@ -621,7 +683,7 @@ const LINKS: &[Row] = &[
         asked: &[CONNECT, SETUP, READ],
         answered: &[CONFIRM, GRANTED, FAR_FAULT],
         asked_far: &[CONNECT, FAR_SETUP],
-        kept: &[Got::Unconnected(0x0010_0000)],
+        kept: &["unconnected 00100000"],
     },
     // No more is kept than the limit.
     Row {
@@ -632,18 +694,24 @@ const LINKS: &[Row] = &[
         asked: &[CONNECT, SETUP, READ, READ],
         answered: &[CONFIRM, GRANTED, READ_ANSWER, READ_FULL],
         asked_far: &[CONNECT, FAR_SETUP, FAR_READ],
-        kept: &[Got::Asked(true, 0, "FF", "11223344")],
+        kept: &["asked new 00000000 FF 11223344"],
     },
 ];
 
-#[test]
-fn links_are_relayed(rt: HostRuntime) -> Result<(), Fail> {
-    for (number, row) in LINKS.iter().enumerate() {
-        if !goes(&rt, rt.alloc(), row).unwrap_or(false) {
-            return Err(Fail::from(("row", number)));
+/// The number of the first row whose link is served otherwise.
+fn unmet<R: Wait + Clock>(rt: &R, alloc: Global, rows: &[Row]) -> Option<usize> {
+    for (number, row) in rows.iter().enumerate() {
+        if !goes(rt, alloc, row) {
+            return Some(number);
         }
     }
-    Ok(())
+    None
+}
+
+/// Each link is relayed as its row says.
+#[test]
+fn links_are_relayed(rt: HostRuntime) {
+    all_hold(&rt, unmet(&rt, rt.alloc(), LINKS));
 }
 
 /// All that a far link gives for a read.
@@ -673,21 +741,32 @@ fn add_fates(fates: &mut Vec<Fate>, fate: Fate, times: usize) -> Option<()> {
     Some(())
 }
 
-/// A read over this far link is answered by this.
-fn is_answered<R: Wait + Clock>(rt: &R, alloc: Global, far: Line, answer: &str) -> Option<bool> {
+/// The talk of a near link that reads, over this far link.
+fn a_read(alloc: Global, far: Line) -> Option<Talk> {
     let near = a_line(alloc, &[CONNECT, SETUP, READ], &[])?;
     let doer = a_doer(alloc, WINDOWS, 1, Some(far))?;
-    let mut talk = Talk { near, doer };
-    let outcome = serve(rt, alloc, &mut talk)?;
-    let is_so = outcome == Outcome::Ended
-        && is_written(alloc, &talk.near, &[CONFIRM, GRANTED, answer])
-        && talk.doer.kept().len() == 1;
-    Some(is_so)
+    Some(Talk { near, doer })
 }
 
-/// A read is lost if the far link ends after so many octets.
-fn is_lost_after<R: Wait + Clock>(rt: &R, alloc: Global, len: usize) -> Option<bool> {
-    is_answered(rt, alloc, a_cut_line(alloc, len)?, NO_LINK)
+/// Whether a talk has this answer to its read, and the read is kept.
+fn has_answered(alloc: Global, talk: &Talk, answer: &str) -> bool {
+    is_written(alloc, &talk.near, &[CONFIRM, GRANTED, answer]) && talk.doer.kept().len() == 1
+}
+
+/// Whether a read over this far link is answered by this.
+fn is_answered<R: Wait + Clock>(rt: &R, alloc: Global, far: Line, answer: &str) -> bool {
+    match a_read(alloc, far) {
+        Some(mut talk) => is_served(rt, alloc, &mut talk) && has_answered(alloc, &talk, answer),
+        None => false,
+    }
+}
+
+/// Whether a read is lost if the far link ends after so many octets.
+fn is_lost_after<R: Wait + Clock>(rt: &R, alloc: Global, len: usize) -> bool {
+    match a_cut_line(alloc, len) {
+        Some(far) => is_answered(rt, alloc, far, NO_LINK),
+        None => false,
+    }
 }
 
 /// What calls of a far link meet, how often, and what a read is answered then.
@@ -700,20 +779,18 @@ const HINDRANCES: &[Hindrance] = &[
     (Fate::NotYet, 50, NO_ANSWER),
 ];
 
-/// A read is answered so if the far link is hindered from this call on.
+/// Whether a read is answered so if the far link is hindered from this call on.
 fn is_hindered_at<R: Wait + Clock>(
     rt: &R,
     alloc: Global,
     call: usize,
     hindrance: &Hindrance,
-) -> Option<bool> {
+) -> bool {
     let (fate, times, answer) = *hindrance;
-    is_answered(
-        rt,
-        alloc,
-        a_hindered_line(alloc, call, fate, times)?,
-        answer,
-    )
+    match a_hindered_line(alloc, call, fate, times) {
+        Some(far) => is_answered(rt, alloc, far, answer),
+        None => false,
+    }
 }
 
 /// A far link's octets for a read: 22 of the confirm, 27 of the grant, 29 of the answer.
@@ -723,32 +800,44 @@ const FAR_OCTETS: usize = 78;
 /// job.
 const FAR_CALLS: usize = 4;
 
-#[test]
-fn a_read_is_lost_wherever_the_far_link_ends(rt: HostRuntime) -> Result<(), Fail> {
-    for len in 0..FAR_OCTETS {
-        if !is_lost_after(&rt, rt.alloc(), len).unwrap_or(false) {
-            return Err(Fail::from(("octet", len)));
+/// The first number of octets after which the far link ends and the read isn't lost.
+fn unmet_octet<R: Wait + Clock>(rt: &R, alloc: Global, octets: usize) -> Option<usize> {
+    for len in 0..octets {
+        if !is_lost_after(rt, alloc, len) {
+            return Some(len);
         }
     }
-    Ok(())
+    None
+}
+
+/// A read is lost wherever the far link ends.
+#[test]
+fn a_read_is_lost_wherever_the_far_link_ends(rt: HostRuntime) {
+    all_hold(&rt, unmet_octet(&rt, rt.alloc(), FAR_OCTETS));
 }
 
 /// A read is answered as each hindrance says if the far link is hindered from this call on.
 fn all_hinder<R: Wait + Clock>(rt: &R, alloc: Global, call: usize) -> bool {
     for hindrance in HINDRANCES {
-        if !is_hindered_at(rt, alloc, call, hindrance).unwrap_or(false) {
+        if !is_hindered_at(rt, alloc, call, hindrance) {
             return false;
         }
     }
     true
 }
 
-#[test]
-fn a_read_is_answered_whichever_call_is_hindered(rt: HostRuntime) -> Result<(), Fail> {
-    for call in 0..FAR_CALLS {
-        if !all_hinder(&rt, rt.alloc(), call) {
-            return Err(Fail::from(("call", call)));
+/// The first call of the far link at which a hindrance has another answer.
+fn unmet_call<R: Wait + Clock>(rt: &R, alloc: Global, calls: usize) -> Option<usize> {
+    for call in 0..calls {
+        if !all_hinder(rt, alloc, call) {
+            return Some(call);
         }
     }
-    Ok(())
+    None
+}
+
+/// A read is answered as the hindrance says, whichever call is hindered.
+#[test]
+fn a_read_is_answered_whichever_call_is_hindered(rt: HostRuntime) {
+    all_hold(&rt, unmet_call(&rt, rt.alloc(), FAR_CALLS));
 }

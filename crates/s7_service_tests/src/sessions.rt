@@ -2,13 +2,13 @@
 use crate::areas::AREAS;
 use crate::books::{a_book, are_of_links};
 use crate::fields::octets;
+use crate::rows::all_hold;
 use s7_memory::{FailingLink, Fate, MemoryLink};
 use s7_outer::Octets;
 use s7_plant::{Book, Tail};
 use s7_session::{BookDoer, Outcome, Session, Turn};
 use std::alloc::Global;
 use std::sync::Wait;
-use std::test::Fail;
 use std::time::Clock;
 
 /// A connect request, in its packet.
@@ -184,9 +184,8 @@ fn turns_go(alloc: Global) -> Option<bool> {
 
 /// Each turn returns what it did.
 #[test]
-fn a_turn_tells_what_it_did(rt: HostRuntime) -> Result<(), Fail> {
-    assert!(rt; turns_go(rt.alloc()).unwrap_or(false));
-    Ok(())
+fn a_turn_tells_what_it_did(rt: HostRuntime) {
+    assert!(rt; turns_go(rt.alloc()) == Some(true));
 }
 
 /// A test of a link: how many entries the journal takes, the fates of the link's calls, what the link gives, what is
@@ -314,13 +313,18 @@ const LINKS: &[Row] = &[
     },
 ];
 
-/// Each link is served as its row states.
-#[test]
-fn links_are_served(rt: HostRuntime) -> Result<(), Fail> {
-    for (number, row) in LINKS.iter().enumerate() {
-        if !goes(&rt, rt.alloc(), row).unwrap_or(false) {
-            return Err(Fail::from(("row", number)));
+/// The number of the first row whose link is served otherwise.
+fn unmet<R: Wait + Clock>(rt: &R, alloc: Global, rows: &[Row]) -> Option<usize> {
+    for (number, row) in rows.iter().enumerate() {
+        if goes(rt, alloc, row) != Some(true) {
+            return Some(number);
         }
     }
-    Ok(())
+    None
+}
+
+/// Each link is served as its row states.
+#[test]
+fn links_are_served(rt: HostRuntime) {
+    all_hold(&rt, unmet(&rt, rt.alloc(), LINKS));
 }

@@ -5,9 +5,9 @@ ghost use Rattle.s7_plant.specs.Observers.{IsFresh};
 
 use crate::books::Scene;
 use crate::fields::{field, hex_number, number, part};
+use crate::rows::all_hold;
 use s7_plant::{Book, Event, Observer, Tail};
 use std::alloc::Global;
-use std::test::Fail;
 
 /// The two tails that a text states, with a bar between them, or no tail if the text is empty. A tail is stated as a
 /// mask in hexadecimal and a depth.
@@ -173,13 +173,18 @@ fn has_last(alloc: Global, row: &(&str, usize, u64)) -> Option<bool> {
     Some(is_so)
 }
 
-/// Tails keep the last of ten thousand events.
-#[test]
-fn ten_thousand_events(rt: HostRuntime) -> Result<(), Fail> {
-    for row in DEPTHS {
-        if !has_last(rt.alloc(), row).unwrap_or(false) {
-            return Err(Fail::new(row.0));
+/// The number of the first tail that doesn't keep its last events.
+fn unmet(alloc: Global, rows: &[(&str, usize, u64)]) -> Option<usize> {
+    for (number, row) in rows.iter().enumerate() {
+        if has_last(alloc, row) != Some(true) {
+            return Some(number);
         }
     }
-    Ok(())
+    None
+}
+
+/// Tails keep the last of ten thousand events.
+#[test]
+fn ten_thousand_events(rt: HostRuntime) {
+    all_hold(&rt, unmet(rt.alloc(), DEPTHS));
 }
