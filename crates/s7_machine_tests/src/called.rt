@@ -19,14 +19,22 @@ use std::thread::{Threads, join};
 use std::time::Clock;
 
 /// A door over TCP that reports its port as soon as it listens. The port is the requested one, or one of the next if
-/// that is taken.
+/// that is taken. A door that has reported its port stays there.
 #[derive(Drop)]
-struct TellingDoor<'a> {
+pub(crate) struct TellingDoor<'a> {
     door: Doorway,
     told: &'a Told,
     port: u16,
     listens: u64,
     faults: u64,
+}
+
+/// The port on which a door listens from now on: the one that it has reported, or one from this one on.
+fn heard_on(door: &mut Doorway, told: &Told, port: u16) -> Option<u16> {
+    match told.get() {
+        Some(heard) => *heard,
+        None => listen_from(door, port),
+    }
 }
 
 impl Door<Line> for TellingDoor<'_> {
@@ -42,7 +50,7 @@ impl Door<Line> for TellingDoor<'_> {
     fn listen(&mut self, port: u16) -> Result<(), DoorFailed> {
         self.port = port;
         self.listens = self.listens.saturating_add(1);
-        let heard = listen_from(&mut self.door, port);
+        let heard = heard_on(&mut self.door, self.told, port);
         let _ = self.told.try_set(heard);
         if heard.is_some() {
             return Ok(());
@@ -152,17 +160,17 @@ fn files(alloc: Global, areas: &AreaFile) -> Option<MemoryFiles> {
 }
 
 /// A link over the standard streams.
-fn a_pipe(host: HostRuntime) -> Option<Line> {
+pub(crate) fn a_pipe(host: HostRuntime) -> Option<Line> {
     RealLink::standard(host.alloc(), host).ok()
 }
 
 /// An output of ample room.
-fn an_output(alloc: Global) -> Option<MemoryOut> {
+pub(crate) fn an_output(alloc: Global) -> Option<MemoryOut> {
     MemoryOut::new(alloc, 65_536).ok()
 }
 
 /// A door that reports its port.
-fn a_door(host: HostRuntime, told: &Told) -> TellingDoor<'_> {
+pub(crate) fn a_door(host: HostRuntime, told: &Told) -> TellingDoor<'_> {
     TellingDoor {
         door: new_door(&host),
         told,
@@ -170,6 +178,11 @@ fn a_door(host: HostRuntime, told: &Told) -> TellingDoor<'_> {
         listens: 0,
         faults: 0,
     }
+}
+
+/// Makes a door listen, which reports its port. Reports whether it listens.
+pub(crate) fn listens(door: &mut TellingDoor<'_>, port: u16) -> bool {
+    door.listen(port).is_ok()
 }
 
 /// An observer that is shown the events of this mask, and keeps the newest one.
@@ -183,7 +196,7 @@ fn a_tail(alloc: Global, mask: u32) -> Option<Vec<Tail>>
 }
 
 /// The outcome of serving, watched by an observer of this mask.
-fn serve<R: Threads + Wait + Clock + Sync>(
+pub(crate) fn serve<R: Threads + Wait + Clock + Sync>(
     rt: &R,
     alloc: Global,
     words: &[&str],

@@ -39,7 +39,7 @@ pub(crate) enum Callers {
 }
 
 /// The port, once the server listens.
-fn port_of<R: Wait>(rt: &R, told: &Told) -> Option<u16> {
+pub(crate) fn port_of<R: Wait>(rt: &R, told: &Told) -> Option<u16> {
     *told.wait(rt)
 }
 

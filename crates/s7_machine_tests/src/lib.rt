@@ -1,5 +1,5 @@
-//! Tests over the machine and its threads: the objects over the operating system, links that are served at once, and
-//! the server and the tool as their programs call them, over TCP.
+//! Tests over the machine and its threads: the objects over the operating system, links that are served at once, the
+//! server and the tool as their programs call them, over TCP, and chains of programs.
 #![tactic(auto)]
 
 #[cfg(test)]
@@ -8,6 +8,8 @@ mod books;
 mod called;
 #[cfg(test)]
 mod callers;
+#[cfg(test)]
+mod chains;
 #[cfg(test)]
 mod coming;
 #[cfg(test)]

@@ -175,10 +175,15 @@ pub(crate) fn rest_of(alloc: Global, line: &mut Line) -> Option<Octets> {
     gathered(alloc, line, MOST, 1_000, true)
 }
 
-/// Sends a telegram. The result is its answer, which is the next telegram, since nothing comes unasked.
-pub(crate) fn ask(alloc: Global, line: &mut Line, telegram: &[u8]) -> Option<Octets> {
-    if takes(line, telegram) {
-        gathered(alloc, line, 64, 200, false)
+/// The next telegram.
+pub(crate) fn telegram(alloc: Global, line: &mut Line) -> Option<Octets> {
+    gathered(alloc, line, 64, 200, false)
+}
+
+/// Sends octets. The result is the answer, which is the next telegram, since nothing comes unasked.
+pub(crate) fn ask(alloc: Global, line: &mut Line, octets: &[u8]) -> Option<Octets> {
+    if takes(line, octets) {
+        telegram(alloc, line)
     } else {
         None
     }

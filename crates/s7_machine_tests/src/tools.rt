@@ -191,11 +191,11 @@ const COMMANDS: &[Command] = &[
 
 /// The outcome of a call: what came to its peer, its status, the completion that came back, and its output.
 #[derive(Drop)]
-struct Told {
+pub(crate) struct Told {
     came: Octets,
-    status: u8,
+    pub(crate) status: u8,
     done: Option<Counter>,
-    out: MemoryOut,
+    pub(crate) out: MemoryOut,
 }
 
 /// Inserts a file. Reports whether memory is left for it.
@@ -207,7 +207,7 @@ fn inserts(files: &mut MemoryFiles, alloc: Global, path: &str, text: Option<Octe
 }
 
 /// Inserts these files. Reports whether memory is left for them.
-fn inserts_all(files: &mut MemoryFiles, alloc: Global, texts: &[(&str, &str)]) -> bool {
+pub(crate) fn inserts_all(files: &mut MemoryFiles, alloc: Global, texts: &[(&str, &str)]) -> bool {
     for (path, text) in texts {
         if !inserts(files, alloc, path, joined(alloc, &[text.as_bytes()])) {
             return false;
@@ -255,7 +255,7 @@ fn outcome_of(alloc: Global, end: ToolEnd<Line, Counter>, out: MemoryOut) -> Tol
 
 /// The outcome of a call over these files, without what came to its peer. The call's link is closed here, since the peer
 /// waits for the end of what comes.
-fn tells_over(
+pub(crate) fn tells_over(
     host: HostRuntime,
     words: &[&str],
     files: &mut MemoryFiles,
@@ -272,7 +272,7 @@ fn tells(host: HostRuntime, words: &[&str], room: usize) -> Option<Told> {
 }
 
 /// A port as a word.
-fn word_of(alloc: Global, port: u16) -> Option<String> {
+pub(crate) fn word_of(alloc: Global, port: u16) -> Option<String> {
     format!(in alloc; "{port}").ok()
 }
 

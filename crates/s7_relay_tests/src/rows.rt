@@ -1,16 +1,15 @@
-// Rows: words, a windows file and what two links give; the status, the text, what both links were told, and how many
-// telegrams are kept.
+//! Rows: words, a windows file and what two links give; the status, the text, what both links were told, and how many
+//! telegrams are kept.
 use crate::octets::{
     ANSWER, CONFIRM, CONNECT, FAR_ANSWER, FAR_GRANTED, FAR_READ, FAR_SETUP, GRANTED, NO_LINK,
     NO_ROOM, READ, SETUP, octets_of,
 };
-use crate::programs::relayed;
 use s7_memory::{MemoryDial, MemoryFiles, MemoryLink, MemoryOut};
 use s7_outer::Octets;
-use s7_relay_main::RelayEnd;
+use s7_relay_main::{RelayEnd, relay_main};
 use std::alloc::Global;
+use std::process::Abort;
 use std::sync::Wait;
-use std::test::Fail;
 use std::time::Clock;
 
 /// Four octets of data block 1 are those of data block 7 from octet 10 on.
@@ -44,19 +43,42 @@ struct Row {
 /// What the relay leaves over links in memory.
 type End = RelayEnd<MemoryLink, MemoryDial<MemoryLink>, MemoryLink>;
 
+/// What a relay is handed and what it prints: its files, and the output.
+struct Stage {
+    files: MemoryFiles,
+    out: MemoryOut,
+}
+
+// It is dropped by a function of its own, so that what drops it is soon proved.
+impl Drop for Stage {
+    fn drop(self) {
+        let Stage { files: _, out: _ } = self;
+    }
+}
+
 /// A link that gives these packets.
 fn a_link(alloc: Global, packets: &[&str]) -> Option<MemoryLink> {
     let input = Octets::of_vec(octets_of(alloc, packets)?);
     MemoryLink::new(alloc, input, 8_192, 16_384, 0).ok()
 }
 
-/// The dial of a row.
-fn a_dial(alloc: Global, row: &Row) -> Option<MemoryDial<MemoryLink>> {
-    let link = match row.far {
-        Some(packets) => Some(a_link(alloc, packets)?),
-        None => None,
-    };
-    Some(MemoryDial::new(link))
+/// The far link, if there is one; `Err` if memory is missing.
+fn a_far_link(alloc: Global, far: Option<&[&str]>) -> Result<Option<MemoryLink>, ()> {
+    match far {
+        Some(packets) => match a_link(alloc, packets) {
+            Some(link) => Ok(Some(link)),
+            None => Err(()),
+        },
+        None => Ok(None),
+    }
+}
+
+/// The dial whose link gives these packets; a dial without a link if there are none.
+fn a_dial(alloc: Global, far: Option<&[&str]>) -> Option<MemoryDial<MemoryLink>> {
+    match a_far_link(alloc, far) {
+        Ok(link) => Some(MemoryDial::new(link)),
+        Err(()) => None,
+    }
 }
 
 /// A file `w.txt` of this text.
@@ -64,6 +86,13 @@ fn a_file(alloc: Global, text: Vec<u8>) -> Option<MemoryFiles> {
     let mut files = MemoryFiles::new();
     files.insert(alloc, "w.txt", Octets::of_vec(text)).ok()?;
     Some(files)
+}
+
+/// A file `w.txt` of this text, and an output that takes so many octets.
+fn a_stage(alloc: Global, text: Vec<u8>, room: usize) -> Option<Stage> {
+    let files = a_file(alloc, text)?;
+    let out = MemoryOut::new(alloc, room).ok()?;
+    Some(Stage { files, out })
 }
 
 /// The octets written on a link are these packets.
@@ -74,13 +103,17 @@ fn is_written(alloc: Global, link: &MemoryLink, packets: &[&str]) -> bool {
     }
 }
 
-/// What was asked over the far link is this; nothing if none was dialled.
-fn is_asked_far(alloc: Global, end: &End, packets: &[&str]) -> bool {
-    let link = match &end.doer {
+/// The far link, if the relay dialled one.
+fn far_link(end: &End) -> Option<&MemoryLink> {
+    match &end.doer {
         Some(doer) => doer.far_link(),
         None => None,
-    };
-    match link {
+    }
+}
+
+/// What was asked over the far link is this; nothing if none was dialled.
+fn is_asked_far(alloc: Global, end: &End, packets: &[&str]) -> bool {
+    match far_link(end) {
         Some(link) => is_written(alloc, link, packets),
         None => packets.is_empty(),
     }
@@ -88,31 +121,75 @@ fn is_asked_far(alloc: Global, end: &End, packets: &[&str]) -> bool {
 
 /// How many telegrams are kept; `None` if nothing was served.
 fn count_of(end: &End) -> Option<usize> {
-    end.doer.as_ref().map(|doer| doer.kept().len())
+    match &end.doer {
+        Some(doer) => Some(doer.kept().len()),
+        None => None,
+    }
 }
 
-/// A row goes as it says.
-fn goes<R: Wait + Clock>(rt: &R, alloc: Global, row: &Row) -> Option<bool> {
-    let text = row.windows.as_bytes().to_vec(alloc).ok()?;
-    goes_over(rt, alloc, row, text)
+/// What the relay leaves. Nothing is promised of it.
+fn relayed<R: Wait + Clock>(
+    rt: &R,
+    alloc: Global,
+    words: &[&str],
+    stage: &mut Stage,
+    pipe: MemoryLink,
+    dial: MemoryDial<MemoryLink>,
+) -> End {
+    relay_main(
+        rt,
+        alloc,
+        words,
+        &mut stage.files,
+        pipe,
+        dial,
+        &mut stage.out,
+    )
+}
+
+/// What the relay leaves of a row.
+fn end_of<R: Wait + Clock>(rt: &R, alloc: Global, row: &Row, stage: &mut Stage) -> Option<End> {
+    let pipe = a_link(alloc, row.near)?;
+    let dial = a_dial(alloc, row.far)?;
+    Some(relayed(rt, alloc, row.words, stage, pipe, dial))
+}
+
+/// The near link was shut, and its outcome is there, exactly if telegrams were served.
+fn is_ended(end: &End, served: bool) -> bool {
+    end.outcome.is_some() == served && end.line.is_shut() == served
+}
+
+/// The relay left the status of a row, what both links were told, and how many telegrams are kept.
+fn is_left(alloc: Global, end: &End, row: &Row) -> bool {
+    end.status == row.status
+        && is_written(alloc, &end.line, row.answered)
+        && is_asked_far(alloc, end, row.asked_far)
+        && count_of(end) == row.kept
+        && is_ended(end, row.kept.is_some())
+}
+
+/// A row goes as it says over these objects.
+fn goes_on<R: Wait + Clock>(rt: &R, alloc: Global, row: &Row, stage: &mut Stage) -> bool {
+    match end_of(rt, alloc, row, stage) {
+        Some(end) => is_left(alloc, &end, row) && stage.out.text() == row.prints.as_bytes(),
+        None => false,
+    }
 }
 
 /// A row goes as it says if its windows file has this text.
-fn goes_over<R: Wait + Clock>(rt: &R, alloc: Global, row: &Row, text: Vec<u8>) -> Option<bool> {
-    let mut files = a_file(alloc, text)?;
-    let pipe = a_link(alloc, row.near)?;
-    let dial = a_dial(alloc, row)?;
-    let mut out = MemoryOut::new(alloc, row.room).ok()?;
-    let end = relayed(rt, alloc, row.words, &mut files, pipe, dial, &mut out);
-    Some(
-        end.status == row.status
-            && out.text() == row.prints.as_bytes()
-            && is_written(alloc, &end.line, row.answered)
-            && is_asked_far(alloc, &end, row.asked_far)
-            && count_of(&end) == row.kept
-            && end.outcome.is_some() == row.kept.is_some()
-            && end.line.is_shut() == row.kept.is_some(),
-    )
+fn goes_over<R: Wait + Clock>(rt: &R, alloc: Global, row: &Row, text: Vec<u8>) -> bool {
+    match a_stage(alloc, text, row.room) {
+        Some(mut stage) => goes_on(rt, alloc, row, &mut stage),
+        None => false,
+    }
+}
+
+/// A row goes as it says.
+fn goes<R: Wait + Clock>(rt: &R, alloc: Global, row: &Row) -> bool {
+    match row.windows.as_bytes().to_vec(alloc) {
+        Ok(text) => goes_over(rt, alloc, row, text),
+        Err(_) => false,
+    }
 }
 
 /// The words of most rows.
@@ -243,9 +320,11 @@ const TOO_LONG: Row = Row {
 const TOO_MANY: usize = 67_108_865;
 
 /// A windows file that is a comment of this length is refused.
-fn is_too_long<R: Wait + Clock>(rt: &R, alloc: Global, len: usize) -> Option<bool> {
-    let text = vec![in alloc; b'#'; len].ok()?;
-    goes_over(rt, alloc, &TOO_LONG, text)
+fn is_too_long<R: Wait + Clock>(rt: &R, alloc: Global, len: usize) -> bool {
+    match vec![in alloc; b'#'; len] {
+        Ok(text) => goes_over(rt, alloc, &TOO_LONG, text),
+        Err(_) => false,
+    }
 }
 
 /// Words that are usage.
@@ -275,27 +354,52 @@ fn usage(words: &'static [&'static str]) -> Row {
     }
 }
 
-#[test]
-fn rows_go(rt: HostRuntime) -> Result<(), Fail> {
-    for (number, row) in ROWS.iter().enumerate() {
-        if !goes(&rt, rt.alloc(), row).unwrap_or(false) {
-            return Err(Fail::from(("row", number)));
+/// The number of the first row that doesn't go as it says.
+fn unmet<R: Wait + Clock>(rt: &R, alloc: Global, rows: &[Row]) -> Option<usize> {
+    for (number, row) in rows.iter().enumerate() {
+        if !goes(rt, alloc, row) {
+            return Some(number);
         }
     }
-    Ok(())
+    None
 }
 
-#[test]
-fn other_words_are_usage(rt: HostRuntime) -> Result<(), Fail> {
-    for (number, words) in USAGES.iter().enumerate() {
-        if !goes(&rt, rt.alloc(), &usage(words)).unwrap_or(false) {
-            return Err(Fail::from(("words", number)));
+/// The number of the first words that aren't usage.
+fn unmet_words<R: Wait + Clock>(
+    rt: &R,
+    alloc: Global,
+    usages: &[&'static [&'static str]],
+) -> Option<usize> {
+    for (number, words) in usages.iter().enumerate() {
+        if !goes(rt, alloc, &usage(words)) {
+            return Some(number);
         }
     }
-    Ok(())
+    None
 }
 
+/// Ends the test with the number of a row that doesn't hold, if there is one.
+fn all_hold(rt: &impl Abort, unmet: Option<usize>) {
+    assert!(rt;
+        unmet.is_none(),
+        "the first row that doesn't hold is {unmet:?}"
+    );
+}
+
+/// Each row goes as it says.
+#[test]
+fn rows_go(rt: HostRuntime) {
+    all_hold(&rt, unmet(&rt, rt.alloc(), ROWS));
+}
+
+/// Other words are usage.
+#[test]
+fn other_words_are_usage(rt: HostRuntime) {
+    all_hold(&rt, unmet_words(&rt, rt.alloc(), USAGES));
+}
+
+/// A windows file that is too long is refused.
 #[test]
 fn long_windows_are_refused(rt: HostRuntime) {
-    assert!(rt; is_too_long(&rt, rt.alloc(), TOO_MANY) == Some(true));
+    assert!(rt; is_too_long(&rt, rt.alloc(), TOO_MANY));
 }
