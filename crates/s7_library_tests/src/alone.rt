@@ -1,5 +1,6 @@
 //! Tests of one partner over a line. Each line of a text is steps of an active partner `a` or a passive one `b`, as
 //! `scene` reads them.
+use crate::rows::all_forms_hold;
 use crate::scene::{Form, Unmet, unmet};
 use std::alloc::Global;
 
@@ -108,5 +109,5 @@ fn unmet_row(alloc: Global) -> Option<Unmet> {
 /// Partners refuse blocks, close and report events as the texts say.
 #[test]
 fn partners_refuse_close_and_tell(rt: HostRuntime) {
-    assert_eq!(rt; unmet_row(rt.alloc()), None);
+    all_forms_hold(&rt, unmet_row(rt.alloc()));
 }

@@ -1,4 +1,5 @@
 //! The jobs that texts name.
+use crate::held::HeldJob;
 use crate::words::{hex_octet, hex_small, item_of, items_of, number, octets_of, parted, small};
 use s7_client::{ItemList, Job};
 use s7_outer::Octets;
@@ -49,7 +50,10 @@ pub(crate) fn is_same(alloc: Global, one: &Job, other: &Job) -> Option<bool> {
 
 /// Reports whether a text names this job.
 pub(crate) fn is_job(alloc: Global, job: &Job, text: &str) -> Option<bool> {
-    is_same(alloc, job, &job_of(alloc, text)?)
+    let named = HeldJob {
+        job: job_of(alloc, text)?,
+    };
+    is_same(alloc, job, &named.job)
 }
 
 /// The `Debug` text of a job.

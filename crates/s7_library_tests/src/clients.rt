@@ -1,4 +1,5 @@
 //! The calls of a client that tests make. The functions promise nothing, so that their callers are cheap to prove.
+use crate::held::HeldJob;
 use s7_client::{Client, Counter, Job, Polled, StartFault};
 use s7_outer::Link;
 use std::alloc::Global;
@@ -10,6 +11,17 @@ pub(crate) fn start(
     job: Job,
 ) -> Result<(), StartFault> {
     client.start(alloc, job)
+}
+
+/// Reports whether the client starts a job.
+pub(crate) fn is_started(client: &mut Client<Counter>, alloc: Global, job: Job) -> bool {
+    match client.start(alloc, job) {
+        Ok(()) => true,
+        Err(StartFault { cause: _, job }) => {
+            let _back = HeldJob { job };
+            false
+        }
+    }
 }
 
 /// The outcome of a poll.

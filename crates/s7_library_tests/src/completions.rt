@@ -3,12 +3,12 @@ ghost use Rattle.std.specs.Prelude.{◌≡◌, IfSome, None};
 ghost use Rattle.s7_client.specs.Completions.{connection_of};
 ghost use Rattle.s7_client.specs.Polling.{job_of};
 
+use crate::held::{Done, HeldJob};
 use crate::words::octets_of;
-use s7_client::{Client, Config, Counter, Job};
+use s7_client::{Client, Config, Counter, Job, StartFault};
 use s7_memory::MemoryLink;
 use s7_outer::Octets;
 use std::alloc::Global;
-use std::test::Fail;
 
 /// The confirm and the grant that the link gives, octet by octet.
 const CONFIRM_AND_GRANT: &str = "\
@@ -26,8 +26,14 @@ fn ends_with(
     ensures { job_of (connection_of client.new) ≡ None }
 {
     match client.carry_out(alloc, job, link) {
-        Ok(told) => told.code == code,
-        Err(_) => false,
+        Ok(told) => {
+            let done = Done { told };
+            done.told.code == code
+        }
+        Err(StartFault { cause: _, job }) => {
+            let _back = HeldJob { job };
+            false
+        }
     }
 }
 
@@ -103,7 +109,6 @@ fn is_told(alloc: Global) -> Option<bool> {
 
 /// Each completion of a client counts the jobs that are done while the client has it.
 #[test]
-fn each_completion_is_told_of_its_jobs(rt: HostRuntime) -> Result<(), Fail> {
-    assert!(rt; is_told(rt.alloc()).unwrap_or(false));
-    Ok(())
+fn each_completion_is_told_of_its_jobs(rt: HostRuntime) {
+    assert!(rt; is_told(rt.alloc()) == Some(true));
 }

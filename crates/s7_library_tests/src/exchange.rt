@@ -20,7 +20,8 @@
 //! In octets `@` is the number of parallel jobs. A word in capitals is a name for the words after it in a text of
 //! names.
 use crate::asks::{job_of, number_of};
-use crate::clients::{polled, start, swapped};
+use crate::clients::{is_started, polled, swapped};
+use crate::held::Done;
 use crate::words::{MOST, are, filled, hex_number, number, octets_of, part, parted, small};
 use s7_client::{Client, Config, Counter, Job, JobResult, Polled};
 use s7_memory::{FailingLink, Fate, MemoryLink, Pipes, Side};
@@ -375,14 +376,18 @@ impl Exchange<'_> {
         let (ask, end) = parted(line, ':');
         let number = number_of(ask)?;
         let job = job_of(self.alloc, ask)?;
-        let told = self.done(job)?;
-        self.finish(number, &told);
-        is_told(self.alloc, &told, end)
+        let done = Done {
+            told: self.done(job)?,
+        };
+        self.finish(number, &done.told);
+        is_told(self.alloc, &done.told, end)
     }
 
     /// The result of a job, which the client takes, after one poll, or one more for each call that waits.
     fn done(&mut self, job: Job) -> Option<JobResult> {
-        start(&mut self.client, self.alloc, job).ok()?;
+        if !is_started(&mut self.client, self.alloc, job) {
+            return None;
+        }
         self.waited = 0;
         for _ in 0..self.waits.saturating_add(1) {
             match polled(&mut self.client, &mut self.link) {

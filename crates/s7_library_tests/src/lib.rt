@@ -17,6 +17,8 @@ mod completions;
 #[cfg(test)]
 mod exchange;
 #[cfg(test)]
+mod held;
+#[cfg(test)]
 mod jobs;
 #[cfg(test)]
 mod octets;
@@ -30,6 +32,8 @@ mod pipes;
 mod printing;
 #[cfg(test)]
 mod rigs;
+#[cfg(test)]
+mod rows;
 #[cfg(test)]
 mod scene;
 #[cfg(test)]

@@ -1,10 +1,10 @@
 //! Tests of two partners with the blocks of sends files.
+use crate::rows::all_hold;
 use s7_client::Config;
 use s7_partner::Role;
 use s7_partner_run::{News, PairEnd, PairEvent, run_pair};
 use s7_script::read_sends;
 use std::alloc::Global;
-use std::test::Fail;
 
 /// The end of two partners with these files. The function promises nothing, so that its callers are cheap to prove.
 fn end_of(alloc: Global, one: &[u8], other: &[u8], seed: u32) -> Option<PairEnd> {
@@ -78,11 +78,18 @@ fn send_both(alloc: Global, seed: u32) -> Option<bool> {
     Some(have_sent(&end))
 }
 
+/// The number of the first seed with which they don't.
+fn unmet(alloc: Global, seeds: &[u32]) -> Option<usize> {
+    for (number, seed) in seeds.iter().enumerate() {
+        if send_both(alloc, *seed) != Some(true) {
+            return Some(number);
+        }
+    }
+    None
+}
+
 /// Two partners send 200 blocks each at the same time.
 #[test]
-fn both_send_200_blocks_at_once(rt: HostRuntime) -> Result<(), Fail> {
-    for seed in &[1, 2_147_483_649, 12_345] {
-        assert!(rt; send_both(rt.alloc(), *seed).unwrap_or(false));
-    }
-    Ok(())
+fn both_send_200_blocks_at_once(rt: HostRuntime) {
+    all_hold(&rt, unmet(rt.alloc(), &[1, 2_147_483_649, 12_345]));
 }

@@ -4,6 +4,7 @@
 //! The end of each receive lies somewhere in a packet, and the longer packets go in several transmits. A call is
 //! numbered by the calls before it. The number of octets that are written by then shows whether it receives or
 //! transmits: it transmits if more are written at the next call.
+use crate::rows::all_forms_hold;
 use crate::scene::{Form, Unmet, unmet};
 use std::alloc::Global;
 
@@ -121,5 +122,5 @@ fn unmet_row(alloc: Global) -> Option<Unmet> {
 /// A block is sent and received over a line that fails or waits at each of its calls.
 #[test]
 fn a_block_is_sent_and_received(rt: HostRuntime) {
-    assert_eq!(rt; unmet_row(rt.alloc()), None);
+    all_forms_hold(&rt, unmet_row(rt.alloc()));
 }

@@ -5,8 +5,10 @@
 //! this code. The server `puts OCTETS` into its pipe, and `takes OCTETS` out of the client's, all that wait there.
 //! `waiting N` and `unread N` are the numbers of octets that wait for the server and for the client.
 use crate::asks::job_of;
-use crate::clients::{polled, start};
+use crate::clients::{is_started, polled, start};
 use crate::exchange::{Exchange, Form, Unmet, unmet};
+use crate::held::{Done, HeldJob};
+use crate::rows::all_forms_hold;
 use crate::words::{are, hex_number, item_of, octets_of};
 use s7_client::{Job, JobResult, Polled, StartCause, StartFault};
 use s7_item::Item;
@@ -18,7 +20,7 @@ impl Exchange<'_> {
     /// Reports whether the client starts this job.
     pub(crate) fn starts(&mut self, ask: &str) -> Option<bool> {
         let job = job_of(self.alloc, ask)?;
-        Some(start(&mut self.client, self.alloc, job).is_ok())
+        Some(is_started(&mut self.client, self.alloc, job))
     }
 
     /// Reports whether a read of this item is handed back while another job is outstanding.
@@ -26,17 +28,24 @@ impl Exchange<'_> {
         let item = item_of(item);
         match start(&mut self.client, self.alloc, Job::ReadArea { item }) {
             Ok(()) => Some(false),
-            Err(fault) => Some(is_handed_back(&fault, &item)),
+            Err(StartFault { cause, job }) => {
+                let back = HeldJob { job };
+                Some(cause == StartCause::Pending && is_read_of(&back.job, &item))
+            }
         }
     }
 
     /// Reports whether a poll has this outcome.
     pub(crate) fn polls(&mut self, comes_to: &str) -> Option<bool> {
-        let polled = self.polled();
-        if let Polled::Done(told) = &polled {
-            self.finish(1, told);
+        match self.polled() {
+            Polled::Idle => Some(comes_to == "idle"),
+            Polled::Pending => Some(comes_to == "pending"),
+            Polled::Done(told) => {
+                let done = Done { told };
+                self.finish(1, &done.told);
+                Some(is_connected(&done.told, comes_to))
+            }
         }
-        Some(is_polled(&polled, comes_to))
     }
 
     /// The outcome of a poll over the pipes.
@@ -62,10 +71,10 @@ impl Exchange<'_> {
     }
 }
 
-/// Reports whether the read of this item was handed back, since another job is outstanding.
-fn is_handed_back(fault: &StartFault, item: &Item) -> bool {
-    match &fault.job {
-        Job::ReadArea { item: back } => fault.cause == StartCause::Pending && back == item,
+/// Reports whether the job is a read of this item.
+fn is_read_of(job: &Job, item: &Item) -> bool {
+    match job {
+        Job::ReadArea { item: other } => other == item,
         _ => false,
     }
 }
@@ -94,15 +103,6 @@ fn take(pipes: &mut Pipes, into: &mut [u8; 128]) -> Option<usize> {
     match end.receive(into) {
         Got::Bytes(count) => Some(count),
         Got::End | Got::NotYet | Got::Failed => None,
-    }
-}
-
-/// Reports whether a poll had this outcome.
-fn is_polled(polled: &Polled, comes_to: &str) -> bool {
-    match polled {
-        Polled::Idle => comes_to == "idle",
-        Polled::Pending => comes_to == "pending",
-        Polled::Done(told) => is_connected(told, comes_to),
     }
 }
 
@@ -216,5 +216,5 @@ fn unmet_row(alloc: Global) -> Option<Unmet> {
 /// A job goes on by polls, however little the pipes have room for.
 #[test]
 fn a_job_goes_on_by_polls(rt: HostRuntime) {
-    assert_eq!(rt; unmet_row(rt.alloc()), None);
+    all_forms_hold(&rt, unmet_row(rt.alloc()));
 }

@@ -4,6 +4,8 @@ ghost use Rattle.std.specs.Prelude.{◌≡◌, true};
 ghost use Rattle.s7_script.specs.Printing.{IsPrintable};
 
 use crate::asks::job_of;
+use crate::held::Done;
+use crate::rows::all_hold;
 use crate::words::octets_of;
 use s7_client::{Job, JobResult};
 use s7_outer::Octets;
@@ -56,15 +58,16 @@ fn is_printable(done: &JobResult) -> bool
 }
 
 /// The result of a job, with its code and octets.
-pub(crate) fn done_of(alloc: Global, job: Job, code: u32, octets: &str) -> Option<JobResult> {
-    Some(JobResult {
+pub(crate) fn done_of(alloc: Global, job: Job, code: u32, octets: Vec<u8>) -> Done {
+    let told = JobResult {
         job,
         code,
-        octets: Octets::of_vec(octets_of(alloc, octets)?),
+        octets: Octets::of_vec(octets),
         codes: [0; 20],
         count: 0,
         carried: Octets::of_vec(Vec::new(alloc)),
-    })
+    };
+    Done { told }
 }
 
 /// The line that is printed, if the result can be printed.
@@ -83,14 +86,23 @@ fn is_printed(alloc: Global, line: u32, done: &JobResult, wanted: &str) -> Optio
 /// Reports whether the line of a row is printed.
 fn prints(alloc: Global, row: &Row) -> Option<bool> {
     let (line, code, job, octets, wanted) = *row;
-    let done = done_of(alloc, job_of(alloc, job)?, code, octets)?;
-    is_printed(alloc, line, &done, wanted)
+    let octets = octets_of(alloc, octets)?;
+    let done = done_of(alloc, job_of(alloc, job)?, code, octets);
+    is_printed(alloc, line, &done.told, wanted)
+}
+
+/// The number of the first row whose line isn't printed.
+fn unmet(alloc: Global, rows: &[Row]) -> Option<usize> {
+    for (number, row) in rows.iter().enumerate() {
+        if prints(alloc, row) != Some(true) {
+            return Some(number);
+        }
+    }
+    None
 }
 
 /// The lines of the rows are printed.
 #[test]
 fn results_are_printed(rt: HostRuntime) {
-    for row in PRINTED {
-        assert!(rt; prints(rt.alloc(), row) == Some(true), "{}", row.4);
-    }
+    all_hold(&rt, unmet(rt.alloc(), PRINTED));
 }

@@ -8,6 +8,7 @@ ghost use Rattle.s7_rig.specs.Shown.{script_told};
 
 use crate::asks::is_same;
 use crate::completions::is_last;
+use crate::held::{HeldJob, Rig};
 use crate::pairs::is_filled;
 use s7_area::{AreaKey, Areas};
 use s7_block::Blocks;
@@ -19,7 +20,6 @@ use s7_rig::{ClientScript, RigClient, RigEnd, Schedule, run_rig};
 use s7_script::{Script, read_script};
 use s7_tool_main::{Head, are_good, made_scripts, rig_text};
 use std::alloc::Global;
-use std::test::Fail;
 
 /// Data block 1 with `count` octets 00.
 fn zeros(alloc: Global, count: usize) -> Option<Areas> {
@@ -50,7 +50,10 @@ fn bytes(count: u16) -> Item {
 fn around(alloc: Global, job: Job) -> Option<ClientScript>
     ensures { IfSome result (λ script. script.jobs.items ≡ Connect ∷ job ∷ Disconnect ∷ []) }
 {
-    let mut jobs = Vec::with_capacity(alloc, 3).ok()?;
+    let Ok(mut jobs) = Vec::with_capacity(alloc, 3) else {
+        let _job = HeldJob { job };
+        return None;
+    };
     jobs.push_reserved(Job::Connect);
     jobs.push_reserved(job);
     jobs.push_reserved(Job::Disconnect);
@@ -65,7 +68,7 @@ fn told_rig(
     scripts: Vec<ClientScript>,
     config: Config,
     schedule: Schedule<'_>,
-) -> Option<RigEnd>
+) -> Option<Rig>
     requires some { 1 ≤ limit }
     requires few { limit ≤ 262144 }
     requires least_pdu { 64 ≤ config.pdu }
@@ -80,23 +83,35 @@ fn told_rig(
 {
     let mut done = Some(Counter::new());
     match run_rig(alloc, areas, limit, scripts, config, schedule, &mut done) {
-        Ok(end) if is_told(&end, done) => Some(end),
-        _ => None,
+        Ok(end) => {
+            let rig = Rig { end };
+            if is_told(&rig.end, done) {
+                Some(rig)
+            } else {
+                None
+            }
+        }
+        Err(_) => None,
     }
 }
 
+/// A write of AA to 300 bytes.
+fn a_write(alloc: Global) -> Option<Job> {
+    let octets = Octets::of_vec(vec![in alloc; 0xAA; 300].ok()?);
+    let item = bytes(300);
+    Some(Job::WriteArea { item, octets })
+}
+
 /// The end of a client that reads 300 bytes, and one that writes AA to them, with a PDU length of 240.
-fn a_reader_and_a_writer(alloc: Global, schedule: Schedule<'_>) -> Option<RigEnd>
+fn a_reader_and_a_writer(alloc: Global, schedule: Schedule<'_>) -> Option<Rig>
     requires { All (λ actor. actor < 4) schedule.turns.now }
 {
-    let read = Job::ReadArea { item: bytes(300) };
-    let write = Job::WriteArea {
-        item: bytes(300),
-        octets: Octets::of_vec(vec![in alloc; 0xAA; 300].ok()?),
-    };
+    let item = bytes(300);
+    let read = around(alloc, Job::ReadArea { item })?;
+    let write = around(alloc, a_write(alloc)?)?;
     let mut scripts = Vec::with_capacity(alloc, 2).ok()?;
-    scripts.push_reserved(around(alloc, read)?);
-    scripts.push_reserved(around(alloc, write)?);
+    scripts.push_reserved(read);
+    scripts.push_reserved(write);
     let config = Config {
         pdu: 240,
         polls: 1_000_000,
@@ -165,7 +180,7 @@ fn is_written(end: &RigEnd, number: usize, count: u16, address: u32) -> bool {
 
 /// The end of a rig in which the reader's first part comes before the writer's two parts, and its second one after
 /// them.
-fn a_read_around_a_write(alloc: Global) -> Option<RigEnd> {
+fn a_read_around_a_write(alloc: Global) -> Option<Rig> {
     let turns = [
         0, 2, 2, 0, 2, 2, 0, 0, 2, 2, 1, 3, 3, 1, 3, 3, 1, 1, 3, 3, 1, 3, 3, 1, 0, 2, 2, 0,
     ];
@@ -189,15 +204,14 @@ fn stands_at_its_places(end: &RigEnd) -> bool {
 /// Reports whether a read of two parts has the octets that were there at the entry of each: the first part before a
 /// write, and the second after it.
 fn is_placed_around(alloc: Global) -> Option<bool> {
-    let end = a_read_around_a_write(alloc)?;
-    Some(stands_at_its_places(&end))
+    let rig = a_read_around_a_write(alloc)?;
+    Some(stands_at_its_places(&rig.end))
 }
 
 /// The parts of a read have the octets that were there at their entries.
 #[test]
-fn a_read_stands_at_its_places(rt: HostRuntime) -> Result<(), Fail> {
-    assert!(rt; is_placed_around(rt.alloc()).unwrap_or(false));
-    Ok(())
+fn a_read_stands_at_its_places(rt: HostRuntime) {
+    assert!(rt; is_placed_around(rt.alloc()) == Some(true));
 }
 
 /// A book with nothing in it.
@@ -215,36 +229,46 @@ fn one_line(alloc: Global) -> Option<Vec<Vec<Head>>> {
     Some(heads)
 }
 
-/// The text of a rig whose one client, of link 3, has no results, and whether the rig is good.
-fn text_without_results(
-    alloc: Global,
-    heads: &[Vec<Head>],
-    book: Book<Tail>,
-) -> Option<(Vec<u8>, bool)> {
+/// The one client, of link 3, which has no results.
+fn one_client(alloc: Global) -> Option<Vec<RigClient>> {
     let mut clients = Vec::with_capacity(alloc, 1).ok()?;
     clients.push_reserved(RigClient {
         link: 3,
         results: Vec::new(alloc),
         places: Vec::new(alloc),
     });
+    Some(clients)
+}
+
+/// The end of a rig with that client.
+fn end_without_results(alloc: Global) -> Option<Rig> {
+    let clients = one_client(alloc)?;
+    let book = a_book(alloc)?;
     let end = RigEnd { book, clients };
-    let text = rig_text(alloc, heads, &[], &end).ok()?;
-    Some((text, are_good(heads, 1, end.clients.as_slice())))
+    Some(Rig { end })
+}
+
+/// Reports whether the rig has this text, and isn't good.
+fn has_text(alloc: Global, heads: &[Vec<Head>], end: &RigEnd, wanted: &[u8]) -> bool {
+    match rig_text(alloc, heads, &[], end) {
+        Ok(text) => { text.as_slice() == wanted && !are_good(heads, 1, end.clients.as_slice()) }
+        Err(_) => false,
+    }
 }
 
 /// Reports whether a client of link 3 with one line that has no result is printed as unfinished, and the rig is not
 /// good.
 fn is_unfinished(alloc: Global) -> Option<bool> {
     let heads = one_line(alloc)?;
-    let (text, is_good) = text_without_results(alloc, heads.as_slice(), a_book(alloc)?)?;
-    Some(text.as_slice() == b"client 3 unfinished\njournal 0\n".as_slice() && !is_good)
+    let rig = end_without_results(alloc)?;
+    let text = b"client 3 unfinished\njournal 0\n";
+    Some(has_text(alloc, heads.as_slice(), &rig.end, text))
 }
 
 /// A client without results is printed as unfinished.
 #[test]
-fn a_client_may_be_unfinished(rt: HostRuntime) -> Result<(), Fail> {
-    assert!(rt; is_unfinished(rt.alloc()).unwrap_or(false));
-    Ok(())
+fn a_client_may_be_unfinished(rt: HostRuntime) {
+    assert!(rt; is_unfinished(rt.alloc()) == Some(true));
 }
 
 /// The first lines that the seed 7 draws, without the octets of the write.
@@ -281,21 +305,25 @@ fn scripts_of(alloc: Global) -> Option<Vec<Vec<Job>>> {
     made_scripts(alloc, 7).ok()
 }
 
-/// Reports whether four scripts of 202 jobs are drawn, and the first one begins with these lines.
-fn are_drawn(alloc: Global) -> Option<bool> {
-    let script = script_of(alloc)?;
-    let scripts = scripts_of(alloc)?;
-    let first = scripts.as_slice().first()?.as_slice();
+/// Reports whether these are four scripts of 202 jobs, and the first one begins with these lines.
+fn are_so(alloc: Global, scripts: &[Vec<Job>], script: &Script) -> Option<bool> {
+    let first = scripts.first()?.as_slice();
     let is_so = scripts.len() == 4
         && first.len() == 202
         && script.as_slice().len() == 4
-        && begin_so(alloc, first, &script)?;
+        && begin_so(alloc, first, script)?;
     Some(is_so)
+}
+
+/// Reports whether such scripts are drawn.
+fn are_drawn(alloc: Global) -> Option<bool> {
+    let script = script_of(alloc)?;
+    let scripts = scripts_of(alloc)?;
+    are_so(alloc, scripts.as_slice(), &script)
 }
 
 /// The seed 7 draws the first lines.
 #[test]
-fn lines_are_drawn(rt: HostRuntime) -> Result<(), Fail> {
-    assert!(rt; are_drawn(rt.alloc()).unwrap_or(false));
-    Ok(())
+fn lines_are_drawn(rt: HostRuntime) {
+    assert!(rt; are_drawn(rt.alloc()) == Some(true));
 }

@@ -1,4 +1,5 @@
 //! Tests of the words of the server.
+use crate::rows::all_hold;
 use s7_args::{ServerWords, read_server_words};
 use std::alloc::Global;
 
@@ -196,6 +197,6 @@ fn unmet_serve(alloc: Global) -> Option<usize> {
 /// The server's commands are read from their words.
 #[test]
 fn server_lines(rt: HostRuntime) {
-    assert_eq!(rt; unmet_pipe(rt.alloc()), None);
-    assert_eq!(rt; unmet_serve(rt.alloc()), None);
+    all_hold(&rt, unmet_pipe(rt.alloc()));
+    all_hold(&rt, unmet_serve(rt.alloc()));
 }

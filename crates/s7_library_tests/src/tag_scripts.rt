@@ -1,7 +1,10 @@
 //! Tests of scripts that name tags: the jobs of their lines, their first wrong lines, and the lines of results of jobs
 //! that get or put a tag.
 use crate::asks::is_job;
+use crate::held::HeldJob;
 use crate::printing::done_of;
+use crate::rows::all_hold;
+use crate::words::octets_of;
 use crate::wrong_lines::{Row, Wrong};
 use s7_client::JobResult;
 use s7_outer::Octets;
@@ -103,16 +106,29 @@ const JOBS: &[Named] = &[
 /// Reports whether the last line of a text names this job, and gets or puts a tag of this type.
 fn names(alloc: Global, row: &Named) -> Option<bool> {
     let (text, kind, job) = *row;
-    let line = last_line(alloc, text)?;
-    Some(is_job(alloc, &line.job, job)? && line.tag == kind)
+    let ScriptLine {
+        line: _,
+        job: found,
+        tag,
+    } = last_line(alloc, text)?;
+    let found = HeldJob { job: found };
+    Some(is_job(alloc, &found.job, job)? && tag == kind)
+}
+
+/// The number of the first row whose line doesn't name its job.
+fn unnamed(alloc: Global, rows: &[Named]) -> Option<usize> {
+    for (number, row) in rows.iter().enumerate() {
+        if names(alloc, row) != Some(true) {
+            return Some(number);
+        }
+    }
+    None
 }
 
 /// Lines name the jobs of the rows.
 #[test]
 fn lines_name_jobs(rt: HostRuntime) {
-    for row in JOBS {
-        assert!(rt; names(rt.alloc(), row) == Some(true), "{}", row.0);
-    }
+    all_hold(&rt, unnamed(rt.alloc(), JOBS));
 }
 
 /// The first wrong lines of scripts with tags.
@@ -252,9 +268,10 @@ fn text_of(alloc: Global, line: u32, kind: Option<TagKind>, done: &JobResult) ->
 
 /// The line that is printed if the job of the last line of a text ends with this code and these octets.
 fn printed(alloc: Global, text: &str, code: u32, octets: &str) -> Option<Octets> {
+    let octets = octets_of(alloc, octets)?;
     let ScriptLine { line, job, tag } = last_line(alloc, text)?;
-    let done = done_of(alloc, job, code, octets)?;
-    text_of(alloc, line, tag, &done)
+    let done = done_of(alloc, job, code, octets);
+    text_of(alloc, line, tag, &done.told)
 }
 
 /// Reports whether the line of a row is printed.
@@ -263,15 +280,18 @@ fn prints(alloc: Global, row: &Told) -> Option<bool> {
     Some(printed(alloc, text, code, octets)?.as_slice() == wanted.as_bytes())
 }
 
+/// The number of the first row whose line isn't printed.
+fn unprinted(alloc: Global, rows: &[Told]) -> Option<usize> {
+    for (number, row) in rows.iter().enumerate() {
+        if prints(alloc, row) != Some(true) {
+            return Some(number);
+        }
+    }
+    None
+}
+
 /// The lines of the rows are printed.
 #[test]
 fn results_are_printed(rt: HostRuntime) {
-    for row in PRINTED {
-        assert!(rt;
-            prints(rt.alloc(), row) == Some(true),
-            "{} {}",
-            row.0,
-            row.2
-        );
-    }
+    all_hold(&rt, unprinted(rt.alloc(), PRINTED));
 }

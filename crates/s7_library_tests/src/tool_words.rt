@@ -1,4 +1,5 @@
 //! Tests of the words of the tool.
+use crate::rows::all_hold;
 use s7_args::{PartnerWords, RigWords, RunWords, ToolWords, read_tool_words};
 use std::alloc::Global;
 
@@ -413,10 +414,10 @@ fn unmet_partner(alloc: Global) -> Option<usize> {
 /// The tool's commands are read from their words.
 #[test]
 fn tool_lines(rt: HostRuntime) {
-    assert_eq!(rt; unmet_run(rt.alloc()), None);
-    assert_eq!(rt; unmet_rig(rt.alloc()), None);
-    assert_eq!(rt; unmet_watch(rt.alloc()), None);
-    assert_eq!(rt; unmet_partner(rt.alloc()), None);
+    all_hold(&rt, unmet_run(rt.alloc()));
+    all_hold(&rt, unmet_rig(rt.alloc()));
+    all_hold(&rt, unmet_watch(rt.alloc()));
+    all_hold(&rt, unmet_partner(rt.alloc()));
 }
 
 /// Reports whether the words are a command.
@@ -430,6 +431,8 @@ fn scripts_are_at_most_1024(rt: HostRuntime) {
     let mut words = ["s"; 1_027];
     words[0] = "rig";
     words[1] = "a";
-    assert!(rt; are_taken(rt.alloc(), &words[..1_026]) == Some(true));
-    assert!(rt; are_taken(rt.alloc(), &words) == Some(false));
+    assert!(rt;
+        are_taken(rt.alloc(), &words[..1_026]) == Some(true)
+            && are_taken(rt.alloc(), &words) == Some(false)
+    );
 }

@@ -1,14 +1,13 @@
 //! A rig with a watcher of 2,048 tags beside two clients that write. The text that the tool prints is compared with what
 //! the entries of the journal left in the area.
+use crate::held::Rig;
 use s7_client::Counter;
 use s7_item::Item;
 use s7_memory::{MemoryDial, MemoryFiles, MemoryLink, MemoryOut};
 use s7_outer::Octets;
 use s7_plant::{Entry, Request};
-use s7_rig::RigEnd;
 use s7_tool_main::{ToolEnd, tool_main};
 use std::alloc::Global;
-use std::test::Fail;
 
 /// The number of tags. Tag `k` is the number in the two octets of data block 1 from octet `2 * k` on.
 const TAGS: u32 = 2_048;
@@ -93,12 +92,25 @@ fn all_files(alloc: Global) -> Option<MemoryFiles> {
     Some(files)
 }
 
-/// What the tool printed of the rig, and the rig's end. There is none if the status isn't 0.
-fn watched(alloc: Global) -> Option<(Vec<u8>, RigEnd)> {
+/// The end of a rig that the tool runs. There is none if the status isn't 0. Only this function calls `tool_main`,
+/// since each function that calls it is costly to prove.
+fn ended(
+    alloc: Global,
+    words: &[&str],
+    files: &mut MemoryFiles,
+    dial: &mut MemoryDial<MemoryLink>,
+    out: &mut MemoryOut,
+) -> Option<Rig> {
+    let ToolEnd { status, rig, .. } = tool_main(alloc, words, files, dial, out, None::<Counter>);
+    let rig = Rig { end: rig? };
+    if status == 0 { Some(rig) } else { None }
+}
+
+/// The end of the rig, if the status is 0. Its text goes to the output.
+fn watched(alloc: Global, out: &mut MemoryOut) -> Option<Rig> {
+    let areas = areas_word(alloc)?;
     let mut files = all_files(alloc)?;
     let mut dial: MemoryDial<MemoryLink> = MemoryDial::new(None);
-    let mut out = MemoryOut::new(alloc, 4_000_000).ok()?;
-    let areas = areas_word(alloc)?;
     let words = [
         "rig",
         areas.as_str(),
@@ -109,18 +121,7 @@ fn watched(alloc: Global) -> Option<(Vec<u8>, RigEnd)> {
         "--rounds",
         "100",
     ];
-    let ToolEnd { status, rig, .. } = tool_main(
-        alloc,
-        &words,
-        &mut files,
-        &mut dial,
-        &mut out,
-        None::<Counter>,
-    );
-    if status != 0 {
-        return None;
-    }
-    Some((Vec::from_slice(alloc, out.text()).ok()?, rig?))
+    ended(alloc, &words, &mut files, &mut dial, out)
 }
 
 /// What the entries so far left in the area, what the watcher read last of each tag, its next tag and round, and the
@@ -273,16 +274,21 @@ fn owed(alloc: Global, entries: &[Entry]) -> Option<String> {
     Some(text)
 }
 
+/// Reports whether the output has the text that these entries owe.
+fn owes(alloc: Global, out: &MemoryOut, entries: &[Entry]) -> Option<bool> {
+    let owed = owed(alloc, entries)?;
+    Some(out.text() == owed.as_bytes())
+}
+
 /// Reports whether the text that the tool printed is the one that the journal owes.
 fn is_as_owed(alloc: Global) -> Option<bool> {
-    let (text, end) = watched(alloc)?;
-    let owed = owed(alloc, end.book.journal.as_slice())?;
-    Some(text.as_slice() == owed.as_bytes())
+    let mut out = MemoryOut::new(alloc, 4_000_000).ok()?;
+    let rig = watched(alloc, &mut out)?;
+    owes(alloc, &out, rig.end.book.journal.as_slice())
 }
 
 /// Each line of a watcher of 2,048 tags over 100 rounds is what stood at its entry.
 #[test]
-fn lines_are_what_stood_at_their_entries(rt: HostRuntime) -> Result<(), Fail> {
-    assert!(rt; is_as_owed(rt.alloc()).unwrap_or(false));
-    Ok(())
+fn lines_are_what_stood_at_their_entries(rt: HostRuntime) {
+    assert!(rt; is_as_owed(rt.alloc()) == Some(true));
 }

@@ -4,6 +4,8 @@ ghost use Rattle.s7_client.specs.Form.{count_read, octets_read};
 ghost use Rattle.s7_script.specs.Printing.{IsPrintableOf};
 
 use crate::asks::is_job;
+use crate::held::{Done, HeldJob};
+use crate::rows::all_hold;
 use crate::tag_scripts::tags_of;
 use crate::words::octets_of;
 use s7_client::{Job, JobResult};
@@ -186,11 +188,15 @@ const WATCHED: &[Row] = &[
 fn result_of(alloc: Global, job: Job, read: &Read) -> Option<JobResult>
     ensures { IfSome result (λ given. given.job ≡ job) }
 {
-    let (codes, count) = codes_of(alloc, read.2)?;
+    let (Some((codes, count)), Some(octets)) = (codes_of(alloc, read.2), octets(alloc, read.3))
+    else {
+        let _job = HeldJob { job };
+        return None;
+    };
     Some(JobResult {
         job,
         code: read.1,
-        octets: octets(alloc, read.3)?,
+        octets,
         codes,
         count,
         carried: Octets::of_vec(Vec::new(alloc)),
@@ -273,15 +279,19 @@ fn lines_of(alloc: Global, watch: &mut Watch, read: &Read) -> Option<Octets> {
         return None;
     };
     if is_job(alloc, &job, read.0) != Some(true) {
+        let _job = HeldJob { job };
         return None;
     }
     let Some(done) = result_of(alloc, job, read) else {
         return None;
     };
     if !is_read(&done) {
+        let _done = Done { told: done };
         return None;
     }
-    watch.take(alloc, &done).ok()
+    let lines = watch.take(alloc, &done).ok();
+    let _done = Done { told: done };
+    lines
 }
 
 /// Reports whether the watcher has no next job.
@@ -300,10 +310,18 @@ fn watches(alloc: Global, row: &Row) -> Option<bool> {
     Some(is_over(alloc, &mut watch))
 }
 
+/// The number of the first row that doesn't hold.
+fn unmet(alloc: Global, rows: &[Row]) -> Option<usize> {
+    for (number, row) in rows.iter().enumerate() {
+        if watches(alloc, row) != Some(true) {
+            return Some(number);
+        }
+    }
+    None
+}
+
 /// Watchers ask for their jobs in order, and print the samples that changed.
 #[test]
 fn changes_are_printed(rt: HostRuntime) {
-    for (k, row) in WATCHED.iter().enumerate() {
-        assert!(rt; watches(rt.alloc(), row) == Some(true), "{k}");
-    }
+    all_hold(&rt, unmet(rt.alloc(), WATCHED));
 }

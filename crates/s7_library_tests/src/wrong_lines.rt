@@ -1,4 +1,5 @@
 //! Tests of the first wrong line of a text, and of its fault.
+use crate::rows::all_forms_hold;
 use crate::tag_scripts::{self, TAGS, lines_of, tags_of};
 use crate::{areas, scripts, sends};
 use s7_script::{AreasKind, ScriptKind, read_areas, read_script, read_sends};
@@ -72,41 +73,37 @@ fn unmet(alloc: Global, row: &Row) -> Option<&'static str> {
     None
 }
 
-/// The first such text of a table.
-fn unmet_of(alloc: Global, rows: &[Row]) -> Option<&'static str> {
-    for row in rows {
+/// The first such text of a table, and the number of its row.
+fn unmet_of(alloc: Global, rows: &[Row]) -> Option<(&'static str, usize)> {
+    for (number, row) in rows.iter().enumerate() {
         if let Some(text) = unmet(alloc, row) {
-            return Some(text);
+            return Some((text, number));
         }
     }
     None
 }
 
-/// The first such area file. Each table stands in a function of its own, so that the test is cheap to prove.
-fn unmet_areas(alloc: Global) -> Option<&'static str> {
-    unmet_of(alloc, areas::WRONG_LINES)
-}
+/// The tables: wrong area files, scripts, scripts with tags, and sends files.
+const TABLES: &[&[Row]] = &[
+    areas::WRONG_LINES,
+    scripts::WRONG_LINES,
+    tag_scripts::WRONG_LINES,
+    sends::WRONG_LINES,
+];
 
-/// The first such script.
-fn unmet_script(alloc: Global) -> Option<&'static str> {
-    unmet_of(alloc, scripts::WRONG_LINES)
-}
-
-/// The first such script with tags.
-fn unmet_tag_script(alloc: Global) -> Option<&'static str> {
-    unmet_of(alloc, tag_scripts::WRONG_LINES)
-}
-
-/// The first such sends file.
-fn unmet_sends(alloc: Global) -> Option<&'static str> {
-    unmet_of(alloc, sends::WRONG_LINES)
+/// The first such text of all tables, and the number of its row in its table.
+fn unmet_of_any(alloc: Global) -> Option<(&'static str, usize)> {
+    for rows in TABLES {
+        let unmet = unmet_of(alloc, rows);
+        if unmet.is_some() {
+            return unmet;
+        }
+    }
+    None
 }
 
 /// The first wrong lines of texts are found, with their faults.
 #[test]
 fn first_wrong_line(rt: HostRuntime) {
-    assert_eq!(rt; unmet_areas(rt.alloc()), None);
-    assert_eq!(rt; unmet_script(rt.alloc()), None);
-    assert_eq!(rt; unmet_tag_script(rt.alloc()), None);
-    assert_eq!(rt; unmet_sends(rt.alloc()), None);
+    all_forms_hold(&rt, unmet_of_any(rt.alloc()));
 }
