@@ -305,42 +305,60 @@ const MUCH_CALLS: &str = "\
 3 | 00090000 | 47
 4 | 000a0000 | 295";
 
-/// Each exchange in each form.
-const FORMS: &[Form] = &[
-    (READ, IS_DONE, "read is done"),
-    (READ, FAILS, READ_CALLS),
-    (READ, TIRES, READ_CALLS),
-    (READ, WAITS, READ_CALLS),
-    (DISCONNECT, IS_DONE, "disconnect is done"),
-    (DISCONNECT, FAILS, DISCONNECT_CALLS),
-    (DISCONNECT, TIRES, DISCONNECT_CALLS),
-    (DISCONNECT, WAITS, DISCONNECT_CALLS),
-    (UPLOAD, IS_DONE, "upload is done"),
-    (UPLOAD, FAILS, UPLOAD_CALLS),
-    (UPLOAD, TIRES, UPLOAD_CALLS),
-    (UPLOAD, WAITS, UPLOAD_CALLS),
-    (DOWNLOAD, IS_DONE, "download is done"),
-    (DOWNLOAD, FAILS, DOWNLOAD_CALLS),
-    (DOWNLOAD, TIRES, DOWNLOAD_CALLS),
-    (DOWNLOAD, WAITS, DOWNLOAD_CALLS),
-    (LIST, IS_DONE, "list is done"),
-    (LIST, FAILS, LIST_CALLS),
-    (LIST, TIRES, LIST_CALLS),
-    (LIST, WAITS, LIST_CALLS),
-    (FLIGHT, IS_DONE, "flight is done"),
-    (FLIGHT, FAILS, FLIGHT_CALLS),
-    (FLIGHT, TIRES, FLIGHT_CALLS),
-    (FLIGHT, WAITS, FLIGHT_CALLS),
-    (MUCH, IS_DONE, "much is done"),
-    (MUCH, FAILS, MUCH_CALLS),
-    (MUCH, TIRES, MUCH_CALLS),
-    (MUCH, WAITS, MUCH_CALLS),
-    ("", CONNECT_WAITS, CONNECT_CALLS),
+/// An exchange, its calls, and the name of its row in the form in which it is done.
+type Tried = (&'static str, &'static str, &'static str);
+
+/// The exchanges.
+const EXCHANGES: &[Tried] = &[
+    (READ, READ_CALLS, "read is done"),
+    (DISCONNECT, DISCONNECT_CALLS, "disconnect is done"),
+    (UPLOAD, UPLOAD_CALLS, "upload is done"),
+    (DOWNLOAD, DOWNLOAD_CALLS, "download is done"),
+    (LIST, LIST_CALLS, "list is done"),
+    (FLIGHT, FLIGHT_CALLS, "flight is done"),
+    (MUCH, MUCH_CALLS, "much is done"),
 ];
 
-/// The first row that doesn't hold. Only this function has the texts, so that its callers are cheap to prove.
+/// The first row of an exchange that doesn't hold in one of the four forms.
+fn unmet_in_forms(alloc: Global, tried: &Tried) -> Option<Unmet> {
+    let (names, calls, name) = *tried;
+    unmet(
+        alloc,
+        &[
+            (names, IS_DONE, name),
+            (names, FAILS, calls),
+            (names, TIRES, calls),
+            (names, WAITS, calls),
+        ],
+    )
+}
+
+/// The first row of an exchange that doesn't hold.
+fn unmet_exchange(alloc: Global, all: &[Tried]) -> Option<Unmet> {
+    for tried in all {
+        let unmet = unmet_in_forms(alloc, tried);
+        if unmet.is_some() {
+            return unmet;
+        }
+    }
+    None
+}
+
+/// The connect.
+const CONNECTS: &[Form] = &[("", CONNECT_WAITS, CONNECT_CALLS)];
+
+/// The first row of a connect that doesn't hold. It stands in a function of its own, so that its callers are cheap to
+/// prove.
+fn unmet_connect(alloc: Global) -> Option<Unmet> {
+    unmet(alloc, CONNECTS)
+}
+
+/// The first row that doesn't hold. Only this function has the exchanges, so that its callers are cheap to prove.
 fn unmet_row(alloc: Global) -> Option<Unmet> {
-    unmet(alloc, FORMS)
+    match unmet_exchange(alloc, EXCHANGES) {
+        Some(row) => Some(row),
+        None => unmet_connect(alloc),
+    }
 }
 
 /// Links fail and wait at each call of each exchange.

@@ -15,7 +15,7 @@ pub(crate) fn start(
 
 /// Reports whether the client starts a job.
 pub(crate) fn is_started(client: &mut Client<Counter>, alloc: Global, job: Job) -> bool {
-    match client.start(alloc, job) {
+    match start(client, alloc, job) {
         Ok(()) => true,
         Err(StartFault { cause: _, job }) => {
             let _back = HeldJob { job };
@@ -27,6 +27,16 @@ pub(crate) fn is_started(client: &mut Client<Counter>, alloc: Global, job: Job) 
 /// The outcome of a poll.
 pub(crate) fn polled<L: Link>(client: &mut Client<Counter>, link: &mut L) -> Polled {
     client.poll(link)
+}
+
+/// The PDU length of a client, if it has one.
+pub(crate) fn granted(client: &Client<Counter>) -> Option<u16> {
+    client.granted()
+}
+
+/// Reports whether an error closed the client.
+pub(crate) fn is_closed(client: &Client<Counter>) -> bool {
+    client.closed()
 }
 
 /// Replaces the completion, which is handed out.

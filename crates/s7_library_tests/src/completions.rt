@@ -3,7 +3,9 @@ ghost use Rattle.std.specs.Prelude.{◌≡◌, IfSome, None};
 ghost use Rattle.s7_client.specs.Completions.{connection_of};
 ghost use Rattle.s7_client.specs.Polling.{job_of};
 
+use crate::clients::granted;
 use crate::held::{Done, HeldJob};
+use crate::links::memory_link;
 use crate::words::octets_of;
 use s7_client::{Client, Config, Counter, Job, StartFault};
 use s7_memory::MemoryLink;
@@ -63,7 +65,7 @@ fn a_client(alloc: Global) -> Option<Client<Counter>>
 /// A link that gives the answers to a connect.
 fn a_link(alloc: Global) -> Option<MemoryLink> {
     let input = Octets::of_vec(octets_of(alloc, CONFIRM_AND_GRANT)?);
-    MemoryLink::new(alloc, input, 1, 4_096, 7).ok()
+    memory_link(alloc, input, 1, 4_096)
 }
 
 /// Replaces the completion, which is handed out.
@@ -80,7 +82,7 @@ fn connects(alloc: Global, client: &mut Client<Counter>, link: &mut MemoryLink) 
     ensures { job_of (connection_of client.new) ≡ None }
 {
     let connected = ends_with(alloc, client, Job::Connect, link, 0);
-    match client.granted() {
+    match granted(client) {
         Some(pdu) => connected && pdu == 480,
         None => false,
     }

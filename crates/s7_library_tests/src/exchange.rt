@@ -20,10 +20,11 @@
 //! In octets `@` is the number of parallel jobs. A word in capitals is a name for the words after it in a text of
 //! names.
 use crate::asks::{job_of, number_of};
-use crate::clients::{is_started, polled, swapped};
+use crate::clients::{granted, is_closed, is_started, polled, swapped};
 use crate::held::Done;
+use crate::links::{failing_link, held, memory_link, new_pipes, written};
 use crate::words::{MOST, are, filled, hex_number, number, octets_of, part, parted, small};
-use s7_client::{Client, Config, Counter, Job, JobResult, Polled};
+use s7_client::{Client, Config, Counter, JobResult, Polled};
 use s7_memory::{FailingLink, Fate, MemoryLink, Pipes, Side};
 use s7_outer::Octets;
 use std::alloc::Global;
@@ -205,7 +206,7 @@ fn begun<'a>(alloc: Global, text: &'a str, jobs: &str, most: &str) -> Option<Exc
     let most = usize::from(small(most));
     let waits = waits_of(alloc, text)?;
     let link = link_of(alloc, text, "", most)?;
-    let pipes = Pipes::new(alloc, room_of(text), 7).ok()?;
+    let pipes = new_pipes(alloc, room_of(text))?;
     let client = client_of(alloc, text, jobs)?;
     Some(Exchange {
         alloc,
@@ -243,12 +244,17 @@ fn client_of(alloc: Global, text: &str, jobs: &str) -> Option<Client<Counter>> {
     Client::new(alloc, config, Some(Counter::new())).ok()
 }
 
+/// A link that gives these octets, and whose calls pass.
+fn passing_link(alloc: Global, text: &str, gives: &str, most: usize) -> Option<MemoryLink> {
+    let input = Octets::of_vec(octets_of(alloc, gives)?);
+    memory_link(alloc, input, most, room_of(text))
+}
+
 /// A link that gives these octets.
 fn link_of(alloc: Global, text: &str, gives: &str, most: usize) -> Option<FailingLink<MemoryLink>> {
     let fates = fates_of(alloc, text)?;
-    let input = Octets::of_vec(octets_of(alloc, gives)?);
-    let inner = MemoryLink::new(alloc, input, most.max(1), room_of(text), 7).ok()?;
-    Some(FailingLink::new(inner, fates))
+    let inner = passing_link(alloc, text, gives, most)?;
+    Some(failing_link(inner, fates))
 }
 
 /// The number of octets for which each link and each pipe has room.
@@ -318,15 +324,18 @@ impl Exchange<'_> {
         let (word, rest) = parted(line, ' ');
         match word {
             "jobs" | "most" | "pdu" | "patience" | "room" | "fates" => Some(true),
-            "gives" => {
-                self.link = link_of(self.alloc, self.text, rest, self.most)?;
-                Some(true)
-            }
-            "sent" => Some(are(self.alloc, rest, self.link.inner().written())),
+            "gives" => self.gives(rest),
+            "sent" => Some(are(self.alloc, rest, written(&self.link))),
             "begun" => self.has_begun(rest),
-            "count" => Some(self.link.inner().written().len() as u64 == number(rest)),
+            "count" => Some(written(&self.link).len() as u64 == number(rest)),
             _ => self.stands(word, rest, line),
         }
+    }
+
+    /// Replaces the link by a new one that gives these octets.
+    fn gives(&mut self, octets: &str) -> Option<bool> {
+        self.link = link_of(self.alloc, self.text, octets, self.most)?;
+        Some(true)
     }
 
     /// Reports whether a line on the state of the client holds.
@@ -334,8 +343,8 @@ impl Exchange<'_> {
         match word {
             "waited" => Some(self.waited == number(rest)),
             "granted" => Some(self.is_granted(rest)),
-            "closed" => Some(self.client.closed()),
-            "open" => Some(!self.client.closed()),
+            "closed" => Some(is_closed(&self.client)),
+            "open" => Some(!is_closed(&self.client)),
             _ => self.moves_on(word, rest, line),
         }
     }
@@ -348,8 +357,8 @@ impl Exchange<'_> {
             "busy" => self.is_busy(rest),
             "puts" => self.puts(rest),
             "takes" => self.takes(rest),
-            "waiting" => Some(self.pipes.held(Side::Server) as u64 == number(rest)),
-            "unread" => Some(self.pipes.held(Side::Client) as u64 == number(rest)),
+            "waiting" => Some(held(&self.pipes, Side::Server) == number(rest)),
+            "unread" => Some(held(&self.pipes, Side::Client) == number(rest)),
             _ => self.ends(line),
         }
     }
@@ -360,12 +369,12 @@ impl Exchange<'_> {
         let count = usize::from(small(count));
         let octets = octets_of(self.alloc, words)?;
         let first = octets.as_slice().get(..count)?;
-        Some(first == self.link.inner().written())
+        Some(first == written(&self.link))
     }
 
     /// Reports whether the client has this PDU length, or none.
     fn is_granted(&self, pdu: &str) -> bool {
-        match self.client.granted() {
+        match granted(&self.client) {
             Some(granted) => granted == small(pdu),
             None => pdu == "none",
         }
@@ -375,23 +384,27 @@ impl Exchange<'_> {
     fn ends(&mut self, line: &str) -> Option<bool> {
         let (ask, end) = parted(line, ':');
         let number = number_of(ask)?;
-        let job = job_of(self.alloc, ask)?;
-        let done = Done {
-            told: self.done(job)?,
-        };
+        let done = self.done(ask)?;
         self.finish(number, &done.told);
         is_told(self.alloc, &done.told, end)
     }
 
     /// The result of a job, which the client takes, after one poll, or one more for each call that waits.
-    fn done(&mut self, job: Job) -> Option<JobResult> {
-        if !is_started(&mut self.client, self.alloc, job) {
-            return None;
+    fn done(&mut self, ask: &str) -> Option<Done> {
+        let job = job_of(self.alloc, ask)?;
+        if is_started(&mut self.client, self.alloc, job) {
+            self.outcome()
+        } else {
+            None
         }
+    }
+
+    /// The result of the job that the client took.
+    fn outcome(&mut self) -> Option<Done> {
         self.waited = 0;
         for _ in 0..self.waits.saturating_add(1) {
             match polled(&mut self.client, &mut self.link) {
-                Polled::Done(told) => return Some(told),
+                Polled::Done(told) => return Some(Done { told }),
                 Polled::Pending => self.waited = self.waited.saturating_add(1),
                 Polled::Idle => return None,
             }

@@ -21,6 +21,8 @@ mod held;
 #[cfg(test)]
 mod jobs;
 #[cfg(test)]
+mod links;
+#[cfg(test)]
 mod octets;
 #[cfg(test)]
 mod pairs;

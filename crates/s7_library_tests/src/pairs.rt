@@ -1,17 +1,48 @@
 //! Tests of two partners with the blocks of sends files.
+ghost use Rattle.std.specs.Prelude.{All, IfSome};
+ghost use Rattle.s7_script.specs.Sends.{IsSized};
+
 use crate::rows::all_hold;
 use s7_client::Config;
 use s7_partner::Role;
 use s7_partner_run::{News, PairEnd, PairEvent, run_pair};
-use s7_script::read_sends;
+use s7_script::{Sends, read_sends};
 use std::alloc::Global;
 
-/// The end of two partners with these files. The function promises nothing, so that its callers are cheap to prove.
-fn end_of(alloc: Global, one: &[u8], other: &[u8], seed: u32) -> Option<PairEnd> {
-    let (Ok(one), Ok(other)) = (read_sends(alloc, one), read_sends(alloc, other)) else {
-        return None;
-    };
-    run_pair(alloc, Config::new(1, 0, 2), one, other, seed, 10_000).ok()
+/// The end of two partners. It is dropped by a function of its own, so that its callers are cheap to prove.
+struct Pair {
+    end: PairEnd,
+}
+
+impl Drop for Pair {
+    fn drop(self) {
+        let Pair { end: _ } = self;
+    }
+}
+
+/// The blocks of a sends file.
+fn sends_of(alloc: Global, text: &[u8]) -> Option<Sends>
+    ensures { IfSome result (All IsSized) }
+{
+    read_sends(alloc, text).ok()
+}
+
+/// The end of two partners with these blocks. It promises nothing, so that its callers are cheap to prove.
+fn end_of(alloc: Global, one: Sends, other: Sends, seed: u32) -> Option<Pair>
+    requires sized { All IsSized one }
+    requires other_sized { All IsSized other }
+{
+    match run_pair(alloc, Config::new(1, 0, 2), one, other, seed, 10_000) {
+        Ok(end) => Some(Pair { end }),
+        Err(_) => None,
+    }
+}
+
+/// The end of two partners with these sends files.
+fn end_with(alloc: Global, one: &[u8], other: &[u8], seed: u32) -> Option<Pair> {
+    let one = sends_of(alloc, one)?;
+    let other = sends_of(alloc, other)?;
+    end_of(alloc, one, other, seed)
 }
 
 /// A sends file of `count` blocks, each with one more octet than the one before.
@@ -74,8 +105,8 @@ fn have_sent(end: &PairEnd) -> bool {
 fn send_both(alloc: Global, seed: u32) -> Option<bool> {
     let one = many(alloc, 200, "a1")?;
     let other = many(alloc, 200, "b2")?;
-    let end = end_of(alloc, one.as_slice(), other.as_slice(), seed)?;
-    Some(have_sent(&end))
+    let pair = end_with(alloc, one.as_slice(), other.as_slice(), seed)?;
+    Some(have_sent(&pair.end))
 }
 
 /// The number of the first seed with which they don't.

@@ -95,23 +95,18 @@ fn told_rig(
     }
 }
 
-/// A write of AA to 300 bytes.
-fn a_write(alloc: Global) -> Option<Job> {
-    let octets = Octets::of_vec(vec![in alloc; 0xAA; 300].ok()?);
-    let item = bytes(300);
-    Some(Job::WriteArea { item, octets })
-}
-
 /// The end of a client that reads 300 bytes, and one that writes AA to them, with a PDU length of 240.
 fn a_reader_and_a_writer(alloc: Global, schedule: Schedule<'_>) -> Option<Rig>
     requires { All (λ actor. actor < 4) schedule.turns.now }
 {
-    let item = bytes(300);
-    let read = around(alloc, Job::ReadArea { item })?;
-    let write = around(alloc, a_write(alloc)?)?;
+    let read = Job::ReadArea { item: bytes(300) };
+    let write = Job::WriteArea {
+        item: bytes(300),
+        octets: Octets::of_vec(vec![in alloc; 0xAA; 300].ok()?),
+    };
     let mut scripts = Vec::with_capacity(alloc, 2).ok()?;
-    scripts.push_reserved(read);
-    scripts.push_reserved(write);
+    scripts.push_reserved(around(alloc, read)?);
+    scripts.push_reserved(around(alloc, write)?);
     let config = Config {
         pdu: 240,
         polls: 1_000_000,
@@ -229,40 +224,29 @@ fn one_line(alloc: Global) -> Option<Vec<Vec<Head>>> {
     Some(heads)
 }
 
-/// The one client, of link 3, which has no results.
-fn one_client(alloc: Global) -> Option<Vec<RigClient>> {
+/// The text of a rig whose one client, of link 3, has no results, and whether the rig is good.
+fn text_without_results(
+    alloc: Global,
+    heads: &[Vec<Head>],
+    book: Book<Tail>,
+) -> Option<(Vec<u8>, bool)> {
     let mut clients = Vec::with_capacity(alloc, 1).ok()?;
     clients.push_reserved(RigClient {
         link: 3,
         results: Vec::new(alloc),
         places: Vec::new(alloc),
     });
-    Some(clients)
-}
-
-/// The end of a rig with that client.
-fn end_without_results(alloc: Global) -> Option<Rig> {
-    let clients = one_client(alloc)?;
-    let book = a_book(alloc)?;
     let end = RigEnd { book, clients };
-    Some(Rig { end })
-}
-
-/// Reports whether the rig has this text, and isn't good.
-fn has_text(alloc: Global, heads: &[Vec<Head>], end: &RigEnd, wanted: &[u8]) -> bool {
-    match rig_text(alloc, heads, &[], end) {
-        Ok(text) => { text.as_slice() == wanted && !are_good(heads, 1, end.clients.as_slice()) }
-        Err(_) => false,
-    }
+    let text = rig_text(alloc, heads, &[], &end).ok()?;
+    Some((text, are_good(heads, 1, end.clients.as_slice())))
 }
 
 /// Reports whether a client of link 3 with one line that has no result is printed as unfinished, and the rig is not
 /// good.
 fn is_unfinished(alloc: Global) -> Option<bool> {
     let heads = one_line(alloc)?;
-    let rig = end_without_results(alloc)?;
-    let text = b"client 3 unfinished\njournal 0\n";
-    Some(has_text(alloc, heads.as_slice(), &rig.end, text))
+    let (text, is_good) = text_without_results(alloc, heads.as_slice(), a_book(alloc)?)?;
+    Some(text.as_slice() == b"client 3 unfinished\njournal 0\n".as_slice() && !is_good)
 }
 
 /// A client without results is printed as unfinished.

@@ -1,4 +1,5 @@
 //! Partners that do the steps of texts.
+use crate::links::{failing_link, held, memory_link, new_pipes, written};
 use crate::octets::{cut, joined, some_octets};
 use crate::words::{MOST, filled, hex_number, number, small};
 use s7_client::Config;
@@ -78,18 +79,28 @@ impl Drop for Scene {
     }
 }
 
-/// A new partner at this side.
-fn new_talker(alloc: Global, side: Side, pdu: u16) -> Option<Talker> {
+/// The role of the partner at a side.
+fn role_of(side: Side) -> Role {
+    match side {
+        Side::Client => Role::Active,
+        Side::Server => Role::Passive,
+    }
+}
+
+/// A new partner. The function promises nothing, so that its callers are cheap to prove.
+fn new_partner(alloc: Global, role: Role, pdu: u16) -> Option<Partner> {
     let config = Config {
         pdu: pdu.clamp(64, 1_920),
         ..Config::new(2, 0, 1)
     };
-    let role = match side {
-        Side::Client => Role::Active,
-        Side::Server => Role::Passive,
-    };
+    Partner::new(alloc, role, config).ok()
+}
+
+/// A new partner at this side.
+fn new_talker(alloc: Global, side: Side, pdu: u16) -> Option<Talker> {
+    let partner = new_partner(alloc, role_of(side), pdu)?;
     Some(Talker {
-        partner: Partner::new(alloc, role, config).ok()?,
+        partner,
         side,
         rid: 0,
         octets: Vec::new(alloc),
@@ -107,7 +118,7 @@ fn anew(alloc: Global, args: &str) -> Option<Scene> {
         alloc,
         most: 8_192,
         line: None,
-        pipes: Pipes::new(alloc, room_of(room), 7).ok()?,
+        pipes: new_pipes(alloc, room_of(room))?,
     };
     let a = new_talker(alloc, Side::Client, pdu)?;
     let b = new_talker(alloc, Side::Server, pdu)?;
@@ -135,10 +146,15 @@ fn fates_of(alloc: Global, passed: &str, fate: Fate) -> Option<Vec<Fate>> {
 /// Lays a line that gives these octets and has room for what is written. The call after `passed` calls has this fate.
 fn lays(links: &mut Links, passed: &str, fate: Fate, words: &str) -> Option<bool> {
     let fates = fates_of(links.alloc, passed, fate)?;
-    let input = Octets::of_vec(joined(links.alloc, words)?);
-    let inner = MemoryLink::new(links.alloc, input, links.most.max(1), 4_096, 7).ok()?;
-    links.line = Some(FailingLink::new(inner, fates));
+    let inner = passing_link(links, words)?;
+    links.line = Some(failing_link(inner, fates));
     Some(true)
+}
+
+/// A line that gives these octets and has room for what is written.
+fn passing_link(links: &Links, words: &str) -> Option<MemoryLink> {
+    let input = Octets::of_vec(joined(links.alloc, words)?);
+    memory_link(links.alloc, input, links.most, 4_096)
 }
 
 /// Sets the greatest number of octets that new lines move in a call.
@@ -262,7 +278,7 @@ fn does(me: &mut Talker, other: &Talker, links: &mut Links, text: &str) -> Optio
         "gives" => gives_text(me, links.alloc, args),
         "polls" => polls(me, links, number(args)),
         "turns" => turns(me, other, links),
-        "holds" => Some(links.pipes.held(me.side) as u64 == number(args)),
+        "holds" => Some(held(&links.pipes, me.side) == number(args)),
         "acknowledged" => Some(u64::from(me.sent) == number(args)),
         "outstanding" => Some(u64::from(me.partner.is_sending()) == number(args)),
         "took" => Some(u64::from(me.received) == number(args)),
@@ -305,7 +321,7 @@ fn draws(scene: &mut Scene, seed: u64) -> Option<bool> {
 /// Reports whether these are the octets that were written on the line.
 fn wrote(links: &Links, words: &str) -> Option<bool> {
     let octets = joined(links.alloc, words)?;
-    Some(links.line.as_ref()?.inner().written() == octets.as_slice())
+    Some(written(links.line.as_ref()?) == octets.as_slice())
 }
 
 /// `N OCTETS`: reports whether N octets were written on the line, the first of these.
@@ -314,7 +330,7 @@ fn began(links: &Links, args: &str) -> Option<bool> {
     let count = usize::from(small(count));
     let octets = joined(links.alloc, words)?;
     let first = octets.as_slice().get(..count)?;
-    Some(links.line.as_ref()?.inner().written() == first)
+    Some(written(links.line.as_ref()?) == first)
 }
 
 /// Reports whether a step of the links holds.

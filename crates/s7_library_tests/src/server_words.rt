@@ -163,11 +163,16 @@ fn words_of(wanted: &Wanted) -> ServerWords<'static> {
     }
 }
 
-/// Reports whether the words are read as these. The function promises nothing, so that its callers are cheap to prove.
+/// What words are read as. The function promises nothing, so that its callers are cheap to prove.
+fn read<'a>(alloc: Global, words: &'a [&'a str]) -> Option<Option<ServerWords<'a>>> {
+    read_server_words(alloc, words).ok()
+}
+
+/// Reports whether the words are read as these.
 fn are_read(alloc: Global, words: &[&str], wanted: ServerWords) -> bool {
-    match read_server_words(alloc, words) {
-        Ok(words) => words == Some(wanted),
-        Err(_) => false,
+    match read(alloc, words) {
+        Some(words) => words == Some(wanted),
+        None => false,
     }
 }
 

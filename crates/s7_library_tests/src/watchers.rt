@@ -2,7 +2,7 @@
 //! the entries of the journal left in the area.
 use crate::held::Rig;
 use s7_client::Counter;
-use s7_item::Item;
+use s7_item::{BoxedDataItems, Item};
 use s7_memory::{MemoryDial, MemoryFiles, MemoryLink, MemoryOut};
 use s7_outer::Octets;
 use s7_plant::{Entry, Request};
@@ -43,36 +43,57 @@ fn areas_word(alloc: Global) -> Option<String> {
     Some(word)
 }
 
+/// The line of a tag in the tag file.
+fn tag_line(alloc: Global, tag: u32) -> Option<String> {
+    let at = tag.wrapping_mul(2);
+    format!(in alloc; "T{tag} INT DB1 {at}\n").ok()
+}
+
 /// The text of the tag file.
 fn tags_text(alloc: Global) -> Option<String> {
-    let mut text = String::from_str(alloc, "").ok()?;
+    let mut text = String::new(alloc);
     for tag in 0..TAGS {
-        let at = tag.wrapping_mul(2);
-        let line = format!(in alloc; "T{tag} INT DB1 {at}\n").ok()?;
-        text.push_str(line.as_str()).ok()?;
+        add(&mut text, tag_line(alloc, tag)?.as_str())?;
     }
     Some(text)
+}
+
+/// The line of a client's write of this number.
+fn write_line(alloc: Global, client: u32, number: u32) -> Option<String> {
+    let (tag, value) = written(client, number);
+    let at = tag.wrapping_mul(2);
+    format!(in alloc; "write DB1 byte {at} {value:04x}\n").ok()
 }
 
 /// The script of a client.
 fn script_text(alloc: Global, client: u32) -> Option<String> {
-    let mut text = String::from_str(alloc, "").ok()?;
+    let mut text = String::new(alloc);
     for number in 0..WRITES {
-        let (tag, value) = written(client, number);
-        let at = tag.wrapping_mul(2);
-        let line = format!(in alloc; "write DB1 byte {at} {value:04x}\n").ok()?;
-        text.push_str(line.as_str()).ok()?;
+        add(&mut text, write_line(alloc, client, number)?.as_str())?;
     }
     Some(text)
 }
 
-/// Appends the lines of a client's results.
+/// Adds a text. The function promises nothing, so that its callers are cheap to prove.
+fn add(all: &mut String, text: &str) -> Option<()> {
+    all.push_str(text).ok()
+}
+
+/// The line of a client's result.
+fn result_line(alloc: Global, client: u32, number: u32, job: &str) -> Option<String> {
+    format!(in alloc; "client {client} line {number} {job} 00000000 -\n").ok()
+}
+
+/// Adds the line of a client's result.
+fn add_result(alloc: Global, text: &mut String, client: u32, number: u32, job: &str) -> Option<()> {
+    add(text, result_line(alloc, client, number, job)?.as_str())
+}
+
+/// Adds the lines of a client's results.
 fn add_client(alloc: Global, text: &mut String, client: u32) -> Option<()> {
-    let first = format!(in alloc; "client {client} line 0 connect 00000000 -\n").ok()?;
-    text.push_str(first.as_str()).ok()?;
-    for number in 1..WRITES + 1 {
-        let line = format!(in alloc; "client {client} line {number} write 00000000 -\n").ok()?;
-        text.push_str(line.as_str()).ok()?;
+    add_result(alloc, text, client, 0, "connect")?;
+    for number in 1..=WRITES {
+        add_result(alloc, text, client, number, "write")?;
     }
     Some(())
 }
@@ -83,13 +104,20 @@ fn add_file(alloc: Global, files: &mut MemoryFiles, path: &str, text: &str) -> O
     files.insert(alloc, path, octets).ok()
 }
 
+/// Adds the tag file and both scripts.
+fn add_files(alloc: Global, files: &mut MemoryFiles) -> Option<()> {
+    add_file(alloc, files, "t", tags_text(alloc)?.as_str())?;
+    add_file(alloc, files, "a", script_text(alloc, 1)?.as_str())?;
+    add_file(alloc, files, "b", script_text(alloc, 2)?.as_str())
+}
+
 /// The tag file and both scripts.
 fn all_files(alloc: Global) -> Option<MemoryFiles> {
     let mut files = MemoryFiles::new();
-    add_file(alloc, &mut files, "t", tags_text(alloc)?.as_str())?;
-    add_file(alloc, &mut files, "a", script_text(alloc, 1)?.as_str())?;
-    add_file(alloc, &mut files, "b", script_text(alloc, 2)?.as_str())?;
-    Some(files)
+    match add_files(alloc, &mut files) {
+        Some(()) => Some(files),
+        None => None,
+    }
 }
 
 /// The end of a rig that the tool runs. There is none if the status isn't 0. Only this function calls `tool_main`,
@@ -126,13 +154,25 @@ fn watched(alloc: Global, out: &mut MemoryOut) -> Option<Rig> {
 
 /// What the entries so far left in the area, what the watcher read last of each tag, its next tag and round, and the
 /// lines that it owes.
-#[derive(Drop)]
 struct Walk {
     values: Vec<u16>,
     lasts: Vec<Option<u16>>,
     tag: u32,
     round: u32,
     lines: String,
+}
+
+/// A walk is dropped by a function of its own, so that its callers are cheap to prove.
+impl Drop for Walk {
+    fn drop(self) {
+        let Walk {
+            values: _,
+            lasts: _,
+            tag: _,
+            round: _,
+            lines: _,
+        } = self;
+    }
 }
 
 impl Walk {
@@ -143,7 +183,7 @@ impl Walk {
             lasts: vec![in alloc; None; TAGS as usize].ok()?,
             tag: 0,
             round: 1,
-            lines: String::from_str(alloc, "").ok()?,
+            lines: String::new(alloc),
         })
     }
 
@@ -151,24 +191,12 @@ impl Walk {
     /// the watcher.
     fn take(&mut self, alloc: Global, entry: &Entry) -> Option<()> {
         match &entry.ask.request {
-            Request::Read { items } => {
-                if entry.link != WATCHER {
-                    return None;
-                }
-                self.reads(alloc, items.as_slice())
-            }
+            Request::Read { items } if entry.link == WATCHER => self.reads(alloc, items.as_slice()),
             Request::Write {
                 items,
                 places,
                 octets,
-            } => {
-                if entry.link >= WATCHER {
-                    return None;
-                }
-                let place = places.list().get(0)?;
-                let value = octets.as_slice().get(place.from..)?.get(..place.len)?;
-                self.writes(items.as_slice(), value)
-            }
+            } if entry.link < WATCHER => self.writes(items.as_slice(), first_of(places, octets)?),
             _ => None,
         }
     }
@@ -212,21 +240,37 @@ impl Walk {
             return None;
         }
         let value = *self.values.get(tag as usize)?;
-        let last = self.lasts.get_mut(tag as usize)?;
-        if *last != Some(value) {
-            *last = Some(value);
-            let shown = signed(value);
-            let line = format!(in alloc; "round {round} T{tag} {shown}\n").ok()?;
-            self.lines.push_str(line.as_str()).ok()?;
+        if self.is_new(tag, value)? {
+            let line = sample_line(alloc, round, tag, signed(value))?;
+            add(&mut self.lines, line.as_str())?;
         }
         self.tag = tag.wrapping_add(1);
         Some(())
+    }
+
+    /// Keeps the value of a tag as its last one. Reports whether it is another one than before.
+    fn is_new(&mut self, tag: u32, value: u16) -> Option<bool> {
+        let last = self.lasts.get_mut(tag as usize)?;
+        let before = *last;
+        *last = Some(value);
+        Some(before != Some(value))
     }
 
     /// Reports whether the watcher read all tags in all rounds.
     fn is_over(&self) -> bool {
         self.tag == 0 && self.round == ROUNDS + 1
     }
+}
+
+/// The octets that a write has for its first item.
+fn first_of<'a>(places: &BoxedDataItems, octets: &'a Octets) -> Option<&'a [u8]> {
+    let place = places.list().get(0)?;
+    octets.as_slice().get(place.from..)?.get(..place.len)
+}
+
+/// The line of a sample.
+fn sample_line(alloc: Global, round: u32, tag: u32, shown: i32) -> Option<String> {
+    format!(in alloc; "round {round} T{tag} {shown}\n").ok()
 }
 
 /// The number whose two octets have this value.
@@ -249,34 +293,41 @@ fn item_of(tag: u32) -> Item {
     }
 }
 
-/// The lines of the watcher by the entries of the journal.
-fn lines_by(alloc: Global, entries: &[Entry]) -> Option<String> {
-    let mut walk = Walk::new(alloc)?;
+/// Takes all entries of the journal. Reports whether the watcher read all tags in all rounds.
+fn takes_all(alloc: Global, walk: &mut Walk, entries: &[Entry]) -> Option<bool> {
     for entry in entries {
         walk.take(alloc, entry)?;
     }
-    if walk.is_over() {
-        Some(walk.lines)
+    Some(walk.is_over())
+}
+
+/// The walk over all entries of the journal.
+fn walked(alloc: Global, entries: &[Entry]) -> Option<Walk> {
+    let mut walk = Walk::new(alloc)?;
+    if takes_all(alloc, &mut walk, entries) == Some(true) {
+        Some(walk)
     } else {
         None
     }
 }
 
-/// The text that the tool owes for these entries.
-fn owed(alloc: Global, entries: &[Entry]) -> Option<String> {
-    let mut text = String::from_str(alloc, "").ok()?;
-    add_client(alloc, &mut text, 1)?;
-    add_client(alloc, &mut text, 2)?;
-    text.push_str(lines_by(alloc, entries)?.as_str()).ok()?;
-    let count = entries.len();
-    let last = format!(in alloc; "journal {count}\n").ok()?;
-    text.push_str(last.as_str()).ok()?;
-    Some(text)
+/// The last line, which has the number of entries.
+fn last_line(alloc: Global, count: usize) -> Option<String> {
+    format!(in alloc; "journal {count}\n").ok()
+}
+
+/// Adds the text that the tool owes for these entries.
+fn add_owed(alloc: Global, text: &mut String, entries: &[Entry]) -> Option<()> {
+    add_client(alloc, text, 1)?;
+    add_client(alloc, text, 2)?;
+    add(text, walked(alloc, entries)?.lines.as_str())?;
+    add(text, last_line(alloc, entries.len())?.as_str())
 }
 
 /// Reports whether the output has the text that these entries owe.
 fn owes(alloc: Global, out: &MemoryOut, entries: &[Entry]) -> Option<bool> {
-    let owed = owed(alloc, entries)?;
+    let mut owed = String::new(alloc);
+    add_owed(alloc, &mut owed, entries)?;
     Some(out.text() == owed.as_bytes())
 }
 

@@ -188,15 +188,11 @@ const WATCHED: &[Row] = &[
 fn result_of(alloc: Global, job: Job, read: &Read) -> Option<JobResult>
     ensures { IfSome result (λ given. given.job ≡ job) }
 {
-    let (Some((codes, count)), Some(octets)) = (codes_of(alloc, read.2), octets(alloc, read.3))
-    else {
-        let _job = HeldJob { job };
-        return None;
-    };
+    let (codes, count) = codes_of(alloc, read.2)?;
     Some(JobResult {
         job,
         code: read.1,
-        octets,
+        octets: octets(alloc, read.3)?,
         codes,
         count,
         carried: Octets::of_vec(Vec::new(alloc)),

@@ -2,7 +2,9 @@
 use crate::rows::all_forms_hold;
 use crate::tag_scripts::{self, TAGS, lines_of, tags_of};
 use crate::{areas, scripts, sends};
-use s7_script::{AreasKind, ScriptKind, read_areas, read_script, read_sends};
+use s7_script::{
+    AreasFault, AreasKind, ScriptFault, ScriptKind, read_areas, read_script, read_sends,
+};
 use std::alloc::Global;
 
 /// The fault of a line of an area file, a script, a script with tags, or a sends file.
@@ -17,48 +19,57 @@ pub(crate) enum Wrong {
 /// The number of a line, its fault, and texts whose first wrong line it is, with a bar between them.
 pub(crate) type Row = (u32, Wrong, &'static str);
 
+/// The fault of an area file. The functions of faults promise nothing, so that their callers are cheap to prove.
+fn areas_fault(alloc: Global, text: &str) -> Option<AreasFault> {
+    read_areas(alloc, text.as_bytes()).err()
+}
+
+/// The fault of a script.
+fn script_fault(alloc: Global, text: &str) -> Option<ScriptFault> {
+    read_script(alloc, text.as_bytes()).err()
+}
+
+/// The fault of a sends file.
+fn sends_fault(alloc: Global, text: &str) -> Option<ScriptFault> {
+    read_sends(alloc, text.as_bytes()).err()
+}
+
+/// The number of the wrong line of a script with tags, and its fault.
+fn tag_script_fault(alloc: Global, text: &str) -> Option<(u32, ScriptKind)> {
+    lines_of(alloc, &tags_of(alloc, TAGS)?, text).err()
+}
+
 /// Reports whether this is the first wrong line of an area file, and its fault.
-fn areas_are(alloc: Global, text: &str, line: u32, kind: AreasKind) -> bool {
-    match read_areas(alloc, text.as_bytes()) {
-        Ok(_) => false,
-        Err(fault) => fault.line == line && fault.kind == kind,
+fn areas_are(fault: &Option<AreasFault>, line: u32, kind: AreasKind) -> bool {
+    match fault {
+        Some(fault) => fault.line == line && fault.kind == kind,
+        None => false,
     }
 }
 
-/// Reports whether this is the first wrong line of a script, and its fault.
-fn script_is(alloc: Global, text: &str, line: u32, kind: ScriptKind) -> bool {
-    match read_script(alloc, text.as_bytes()) {
-        Ok(_) => false,
-        Err(fault) => fault.line == line && fault.kind == kind,
+/// Reports whether this is the first wrong line of a script or a sends file, and its fault.
+fn script_is(fault: &Option<ScriptFault>, line: u32, kind: ScriptKind) -> bool {
+    match fault {
+        Some(fault) => fault.line == line && fault.kind == kind,
+        None => false,
     }
 }
 
 /// Reports whether this is the first wrong line of a script with tags, and its fault.
-fn tag_script_is(alloc: Global, text: &str, line: u32, kind: ScriptKind) -> bool {
-    let Some(tags) = tags_of(alloc, TAGS) else {
-        return false;
-    };
-    match lines_of(alloc, &tags, text) {
-        Ok(_) => false,
-        Err((found, fault)) => found == line && fault == kind,
-    }
-}
-
-/// Reports whether this is the first wrong line of a sends file, and its fault.
-fn sends_are(alloc: Global, text: &str, line: u32, kind: ScriptKind) -> bool {
-    match read_sends(alloc, text.as_bytes()) {
-        Ok(_) => false,
-        Err(fault) => fault.line == line && fault.kind == kind,
+fn tag_script_is(fault: &Option<(u32, ScriptKind)>, line: u32, kind: ScriptKind) -> bool {
+    match fault {
+        Some((found, fault)) => *found == line && *fault == kind,
+        None => false,
     }
 }
 
 /// Reports whether this is the first wrong line of a text, and its fault.
 fn is_wrong(alloc: Global, text: &str, line: u32, wrong: Wrong) -> bool {
     match wrong {
-        Wrong::Areas(kind) => areas_are(alloc, text, line, kind),
-        Wrong::Script(kind) => script_is(alloc, text, line, kind),
-        Wrong::TagScript(kind) => tag_script_is(alloc, text, line, kind),
-        Wrong::Sends(kind) => sends_are(alloc, text, line, kind),
+        Wrong::Areas(kind) => areas_are(&areas_fault(alloc, text), line, kind),
+        Wrong::Script(kind) => script_is(&script_fault(alloc, text), line, kind),
+        Wrong::TagScript(kind) => tag_script_is(&tag_script_fault(alloc, text), line, kind),
+        Wrong::Sends(kind) => script_is(&sends_fault(alloc, text), line, kind),
     }
 }
 
