@@ -1,5 +1,5 @@
 -- A watcher that came to its disconnect, with code 0 in all results, has the samples of all its reads.
-use Rattle.std.proofs.Common.{◌≡◌, ◌∙◌, ◌==◌, ◌&&◌, ◌-◌, ◌+◌, ℕ, suc, Bool, cond, eqb, true, false, List, [], ◌∷◌, ◌++◌, length, drop, Some, refl, sym, ap, subst, arith}
+use Rattle.std.proofs.Common.{◌≡◌, ◌∙◌, ◌&&◌, ◌-◌, ℕ, suc, Bool, true, false, List, [], ◌∷◌, ◌++◌, length, drop, refl, sym, ap, subst, arith}
 use Rattle.std.specs.Prelude.{slice_get}
 use Rattle.std.specs.List.{list_all}
 use Rattle.std.proofs.lemmas.Bool.{eqb-true, false≢true}
@@ -10,7 +10,7 @@ use Rattle.s7_plant.specs.State.{State}
 use Rattle.s7_session.specs.Books.{History}
 use Rattle.s7_rig.specs.Followed.{Follow}
 use Rattle.s7_rig.specs.Scripts.{left_behind, reads_many}
-use Rattle.s7_watch.specs.Looks.{Look, job_of, jobs_of}
+use Rattle.s7_watch.specs.Looks.{Look, jobs_of}
 use Rattle.s7_watch.specs.Samples.{Sample}
 use Rattle.s7_watched.specs.Watched.{AreSampled}
 use Rattle.s7_tool_main.specs.RigText.{has_left, is_disconnect, is_last}
