@@ -19,7 +19,8 @@ Made opening limit caller callers seen ask (Entered reply) after =
     × (reply ≡ answer_of (replay after_call opening found) ask) × (after ≡ found ++ entry caller ask ∷ [])
 Made opening limit caller callers seen ask Full after = Agrees seen callers after × (length after ≡ limit)
 
--- the same of the calls for several parts, one after another
+-- what the calls for several parts, one after another, made of a history that a seat had seen: each call goes on from
+-- the history after the call before it
 abbrev pub MadeAll : State → ℕ → ℕ → List ℕ → History → List Part → History → Type 0
 MadeAll opening limit caller callers seen [] after = after ≡ seen
 MadeAll opening limit caller callers seen (p ∷ parts) after =

@@ -22,7 +22,7 @@ module _ {M R P : Type 0} {g : Ghosts M R P} where
     pub saw_none : seen seat ≡ []
     pub gives : next seat ≡ Some 1
 
-  -- the same of the hall and the seat at a bank
+  -- The hall and the seat at a bank were made with the machine of this bank, as `IsOpened` states.
   pub record OpenedAt (machines : List M) (halls : List (Hall M R P)) (seats : List (Option (Seat M R P g))) (bank : ℕ)
       : Type 0 where
     pub machine : M

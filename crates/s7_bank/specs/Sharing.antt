@@ -27,7 +27,8 @@ module _ {M R P : Type 0} {g : Ghosts M R P} where
     pub gives : next new ≡ Some (caller own + 1)
     pub below : (x : ℕ) → has (callers old) x ≡ true → x < caller own
 
-  -- the same of the seats at a bank, which were `olds` and are `news`, and of the seats `owns` that were split off
+  -- At this bank the new seat in `owns` was split off a seat, which is in `olds` as it was before and in `news` as it
+  -- is now.
   pub record SplitAt (halls : List (Hall M R P)) (olds news owns : List (Option (Seat M R P g))) (bank : ℕ)
       : Type 0 where
     pub hall : Hall M R P
@@ -40,7 +41,7 @@ module _ {M R P : Type 0} {g : Ghosts M R P} where
     pub own_is : slice_get owns bank ≡ Some (Some own)
     pub split : IsSplit hall old new own
 
-  -- the same while the seat at one bank changes: the seats at the other banks stay
+  -- The new seat `own` was split off the seat at this bank; the seats at the other banks stay.
   pub record SplitOff (halls : List (Hall M R P)) (olds news : List (Option (Seat M R P g))) (bank : ℕ)
       (own : Seat M R P g) : Type 0 where
     pub hall : Hall M R P
@@ -63,7 +64,7 @@ module _ {M R P : Type 0} {g : Ghosts M R P} where
     pub gives : next new ≡ option_or (next one) (next two)
     pub one_gives : IsSome (next one) → next two ≡ None
 
-  -- the same of the seats at a bank
+  -- The seats in `ones` and `twos` at a bank were joined; the result is the seat in `news`.
   pub record MetAt (halls : List (Hall M R P)) (ones twos news : List (Option (Seat M R P g))) (bank : ℕ)
       : Type 0 where
     pub hall : Hall M R P
@@ -76,7 +77,7 @@ module _ {M R P : Type 0} {g : Ghosts M R P} where
     pub new_is : slice_get news bank ≡ Some (Some new)
     pub met : IsMet hall one two new
 
-  -- the same of one bank, before the new seat is put into a list
+  -- The seats in `ones` and `twos` at a bank were joined; the result is `new`.
   pub record MetOf (halls : List (Hall M R P)) (ones twos : List (Option (Seat M R P g))) (bank : ℕ)
       (new : Seat M R P g) : Type 0 where
     pub hall : Hall M R P
@@ -99,7 +100,7 @@ module _ {M R P : Type 0} {g : Ghosts M R P} where
     pub whole : (n : ℕ) → next seat ≡ Some n → ((x : ℕ) → x < n → has (callers seat) x ≡ true)
         → (g.history machine ≡ seen seat) × Each (λ e. has (callers seat) e.caller ≡ true) (g.history machine)
 
-  -- the same of the hall, the seat and the machine at a bank
+  -- The hall at a bank returned the machine there, whose history agrees with the seat there, as `IsClosed` states.
   pub record ClosedAt (halls : List (Hall M R P)) (seats : List (Option (Seat M R P g))) (machines : List M) (bank : ℕ)
       : Type 0 where
     pub hall : Hall M R P

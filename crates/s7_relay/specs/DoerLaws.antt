@@ -50,7 +50,7 @@ reaches_same shows server old new (Some told) h =
     let good : is_failure told.code ≡ false = ap is_failure h.1 in
     does_counts server _ h.2 new told h.4 false good ∙ dials_same shows server old h.2 h.3
 
--- a step before that counted nothing changes nothing of a count
+-- if a first step left a count as it was, both steps together count as the second does
 counts_on : (b : Bool) (before middle now : ℕ) → middle ≡ before → CountsBy b middle now → CountsBy b before now
 counts_on b before middle now is = subst (λ n. CountsBy b n now) is
 
@@ -71,7 +71,8 @@ near_counts : {M : Type 0} (server : FarServer) (old new : FarModel M) (p : Pass
 near_counts server old new p h =
     subst (λ q. CountsBy (is_failed q) (far_faults server old) (far_faults server new)) (sym h.0) (ap (far_faults server) h.1)
 
--- how far a request got counts one failure, or none
+-- the count of far faults rises by one, or to 2^64 - 1, if the dial or a link failed in a request that got so far, and
+-- otherwise stays
 pub by_counts : {M : Type 0} (shows : M → Shown) (server : FarServer) (b : Bool) (job : Option Job) (old new : FarModel M)
     (p : Passage) → GetsBy shows server b job old new p
     → CountsBy (is_failed p) (far_faults server old) (far_faults server new)

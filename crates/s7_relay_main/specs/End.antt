@@ -30,7 +30,7 @@ Serves shows None files dial pipe line (Some result) (Some doer) = ⊥
 Serves shows (Some told) files dial pipe line (Some result) (Some doer) =
     Relays shows told files dial pipe line result doer
 
--- a link was served, and this holds of its report
+-- a link was served, and `printed` holds of the text of its report
 abbrev pub HasReport : {M : Type 0} → Option Outcome → Option (DoerModel M) → (List ℕ → Type 0) → Type 0
 HasReport None doer printed = ⊥
 HasReport (Some result) None printed = ⊥

@@ -8,8 +8,8 @@ use Rattle.s7_server_main.specs.declared.asked.Asked.{Asked}
 abbrev pub command_of : List (Bor (List ℕ)) → Option ServerTold
 command_of words = server_words (map (λ w. w.now) words)
 
--- what is asked to be served: the word for the areas, the path to which they are saved, the limit of the journal, and
--- the number of entries after which the areas are printed
+-- what a command asks for: the word that names the areas, the path to which they are saved, the limit of the journal,
+-- and the number of entries after which the areas are printed
 pub record AskedTold : Type 0 where
   pub areas : List ℕ
   pub save : Option (List ℕ)

@@ -133,7 +133,7 @@ abbrev pub Saves : {L O : Type 0} → AskedTold → Run L O → FilesShown → F
 Saves asked run files files' = HoldsAreas asked.save files files' run.book.plant.areas
 
 -- HOW A COMMAND ENDED, by what was asked for, the run if there is one, and the files and the output before and after;
--- for a door that failed before a link came, by `failed`
+-- if the door failed before a link came, `failed` holds
 abbrev pub Ends : {L O : Type 0} → (L → Shown) → AskedTold → Type 0 → Option (Run L O)
     → FilesShown → FilesShown → OutShown → OutShown → Ended → Type 0
 Ends shows asked failed run files files' out out' ended.Done =

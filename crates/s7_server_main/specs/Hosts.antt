@@ -33,7 +33,7 @@ pub record ServesPipe (opening : Memory) (limit : ℕ) (pipe : Shown) (run : Run
   pub hosts : HostsOver opening limit (pipe ∷ []) run.links run.book
   pub door : run.door_failed ≡ false
 
--- the links were served that a door gave while it listened on this port, at most `most`
+-- the links that a door gave while it listened on this port, at most `most`, were served
 pub record ServesDoor {L : Type 0} (shows : L → Shown) (port most : ℕ) (opening : Memory) (limit : ℕ)
     (old new : DoorShown L) (run : RunTold) : Type 0 where
   pub lines : List L

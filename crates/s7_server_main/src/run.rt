@@ -46,7 +46,7 @@ pub(crate) struct CommandEnd<L: Link + Drop, O> {
 pub struct ServerEnd<L: Link + Drop, O> {
     /// The exit status.
     pub status: u8,
-    /// What serving left, also if the door ended before a link came; `None` if it came to no serving.
+    /// What serving left, also if the door ended before a link came; `None` if no serving began.
     pub run: Option<Run<L, O>>,
     /// The link on standard input and output; `None` if it was served.
     pub pipe: Option<L>,

@@ -59,6 +59,6 @@ made_text end =
 abbrev pub is_made_good : ClientTold → Bool
 is_made_good c = length c.results == 202 && list_all is_good c.results
 
--- there are four clients, and each of them is good
+-- there are four clients, and each did all its jobs with code 0
 abbrev pub are_made_good : List ClientTold → Bool
 are_made_good clients = length clients == 4 && list_all is_made_good clients

@@ -56,7 +56,8 @@ sends_reader text = numbered (λ (e : ScriptFault). e.line) (sends text)
 
 -- ---- a text that was read: a tag file, a script or a sends file, with its reader
 
--- THE TEXT WAS READ: its octets, no more than the limit and those of the file if the files show them, name these lines
+-- THE TEXT WAS READ: its octets name lines, of which `then` holds. The octets are no more than the limit, and they are
+-- those of the file if the files show them.
 pub record ReadsText {A : Type 0} (reader : Reader A) (path : List ℕ) (files : FilesShown) (then : List A → Type 0)
     : Type 0 where
   pub octets : List ℕ
@@ -68,8 +69,8 @@ pub record ReadsText {A : Type 0} (reader : Reader A) (path : List ℕ) (files :
 
 -- ---- a text that wasn't read
 
--- the octets read, no more than the limit and those of the file if the files show them, have their first faulty line
--- here
+-- The octets that were read have line `n` as their first faulty line. They are no more than the limit, and they are
+-- those of the file if the files show them.
 pub record HasFaultyLine {A : Type 0} (reader : Reader A) (path : List ℕ) (files : FilesShown) (n : ℕ)
     : Type 0 where
   pub octets : List ℕ
@@ -141,29 +142,29 @@ pub record PathFails (path : List ℕ) (old new : FilesShown) (printed : List �
 
 -- ---- tag files, scripts and sends files
 
--- the tags of the file were read by this reader, none if no file is named
+-- `so` holds of the tags that this reader read from the file; of `None` if no file is named
 abbrev pub ReadsTagsBy : Reader Tag → Option (List ℕ) → FilesShown → (Option (List Tag) → Type 0) → Type 0
 ReadsTagsBy reader None files so = so None
 ReadsTagsBy reader (Some path) files so = ReadsText reader path files (λ found. so (Some found))
 
--- THE TAGS that lines of scripts may name were read: those of the tag file, or none if no tag file is named
+-- `so` holds of THE TAGS that lines of scripts may name: those of the tag file, or `None` if no tag file is named
 abbrev pub ReadsTags : Option (List ℕ) → FilesShown → (Option (List Tag) → Type 0) → Type 0
 ReadsTags named files so = ReadsTagsBy tag_reader named files so
 
--- THE TAGS that are watched were read: those of the watch file, or none if no watch file is named
+-- `so` holds of THE TAGS that are watched: those of the watch file, or `None` if no watch file is named
 abbrev pub ReadsWatch : Option (List ℕ) → FilesShown → (Option (List Tag) → Type 0) → Type 0
 ReadsWatch named files so = ReadsTagsBy watch_reader named files so
 
--- the file was refused by this reader, if one is named
+-- a file is named, and its text was refused, as `RefusesText` states for this reader
 abbrev pub RefusesTagsBy : Reader Tag → Option (List ℕ) → FilesShown → (List ℕ → Type 0) → Type 0
 RefusesTagsBy reader None files printed = ⊥
 RefusesTagsBy reader (Some path) files printed = RefusesText reader tags_line path files printed
 
--- the tag file was refused, if one is named
+-- a tag file is named, and was refused
 abbrev pub RefusesTags : Option (List ℕ) → FilesShown → (List ℕ → Type 0) → Type 0
 RefusesTags named files printed = RefusesTagsBy tag_reader named files printed
 
--- the watch file was refused, if one is named
+-- a watch file is named, and was refused
 abbrev pub RefusesWatch : Option (List ℕ) → FilesShown → (List ℕ → Type 0) → Type 0
 RefusesWatch named files printed = RefusesTagsBy watch_reader named files printed
 
@@ -181,7 +182,7 @@ StopsAtTags named old new path why = StopsAtTagsBy tag_reader named old new path
 abbrev pub StopsAtWatch : Option (List ℕ) → FilesShown → FilesShown → List ℕ → LoadFault → Type 0
 StopsAtWatch named old new path why = StopsAtTagsBy watch_reader named old new path why
 
--- the tag file or the watch file failed, if one is named
+-- a tag file or a watch file is named, and failed
 abbrev pub FailsTags : Option (List ℕ) → FilesShown → FilesShown → (List ℕ → Type 0) → Type 0
 FailsTags None old new printed = ⊥
 FailsTags (Some path) old new printed = PathFails path old new printed

@@ -53,9 +53,10 @@ TalksAs start link out last link' out' ended.Refused = ⊥
 TalksAs start link out last link' out' ended.File = ⊥
 TalksAs start link out last link' out' ended.Dial = ⊥
 
--- by the octets that it took and transmitted on the link it is one active partner that was given the blocks in order,
--- and the lines of its news were printed; if all went well, each block was reported as sent; if it closed, the last
--- line has the number of the error
+-- An active partner that was given these blocks in order ran over the link: its news follow from the octets that it
+-- took from the link and transmitted on it. The lines of its news were printed. If all went well, each block was
+-- reported as sent; if not, and it closed, the last line has the number of the error. Nothing is stated here if the
+-- output failed or memory ran out.
 abbrev pub ComesTo : List SendLine → Shown → OutShown → Post → Shown → OutShown → Ended → Type 0
 ComesTo sends link out last link' out' ended.Done =
     (news : List News) × IsSideOver Active partner_config sends link link' news × Gains out out' (actives_text news)

@@ -19,7 +19,8 @@ use Rattle.s7_tool_main.specs.Run.{Goes, first_place}
 
 -- ---- what was run
 
--- the jobs of these lines were carried out over a link, from the first on to what is left
+-- the jobs of these lines were carried out over a link in order, all of them or until they ended early, and left the
+-- run and the output as they are now
 pub record RunsOver {L : Type 0} (shows : L → Shown) (config : Config) (lines : List ScriptLine) (link : Shown)
     (out out' : OutShown) (run : RunEnd L) (how : Ended) : Type 0 where
   pub after : Between

@@ -108,7 +108,8 @@ rig_text scripts watched rounds end =
 abbrev pub is_client_good : List Head → ClientTold → Bool
 is_client_good heads c = is_finished heads c && list_all is_good c.results
 
--- there are this many clients, and the first ones, which have lines with these heads, are good
+-- there are this many clients, and each of the first ones, whose lines have these heads, is finished with code 0 in all
+-- results
 abbrev pub are_good_by : List (List Head) → ℕ → List ClientTold → Bool
 are_good_by heads count clients =
     length clients == count && list_all (λ p. is_client_good p.0 p.1) (zip heads clients)
@@ -122,7 +123,8 @@ abbrev pub is_watch_good : Option (List Tag) → Option ClientTold → Bool
 is_watch_good None watcher = true
 is_watch_good (Some tags) watcher = is_watcher_good watcher
 
--- each script has its client, and each of them is good; and so is the watcher, if tags are watched
+-- Each script has a client, which is finished with code 0 in all results. If tags are watched, the client after these
+-- is the watcher, which came to its disconnect with code 0 in all results. There are no other clients.
 abbrev pub are_clients_good : List (List ScriptLine) → Option (List Tag) → List ClientTold → Bool
 are_clients_good scripts watched clients =
     are_good_by (map heads_of scripts) (client_count (length scripts) watched) clients

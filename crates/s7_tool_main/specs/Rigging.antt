@@ -44,7 +44,8 @@ pub record RefusesAreas (named : Named) (files : FilesShown) (printed : List ℕ
   pub line_is : areas_refusal_line fault ≡ Some line
   pub is_printed : printed line
 
--- this script is the next: the areas and the scripts before it, whose lines may name these tags, were read
+-- the script under this path is the next to be read: the areas were read, and so were the scripts before it, whose
+-- lines may name these tags
 pub record ComesTo (known : Option (List Tag)) (told : RigTold) (files : FilesShown) (path : List ℕ) : Type 0 where
   pub opening : Memory
   pub opened : NamedGives (naming told.areas) files (Ok opening)
@@ -56,12 +57,13 @@ pub record RefusesOneScript (known : Option (List Tag)) (told : RigTold) (files 
   pub next : ComesTo known told files path
   pub refused : RefusesScript known path files printed
 
--- the areas were refused, or the next script
+-- the areas or the next script were refused
 abbrev pub RefusesOther : Option (List Tag) → RigTold → FilesShown → (List ℕ → Type 0) → Type 0
 RefusesOther known told files printed =
     RefusesAreas (naming told.areas) files printed ⊎ RefusesOneScript known told files printed
 
--- the watch file was refused if one is named, or after it the areas or the next script
+-- A watch file is named and was refused; or none is named or it was read, and the areas or the next script were
+-- refused.
 abbrev pub RefusesAfterTags : Option (List Tag) → RigTold → FilesShown → (List ℕ → Type 0) → Type 0
 RefusesAfterTags known told files printed =
     RefusesWatch told.watch files printed ⊎ ReadsWatch told.watch files (λ watched. RefusesOther known told files printed)
@@ -78,21 +80,22 @@ IsPathOf (path p) q = q ≡ p
 IsPathOf (block number octets) q = ⊥
 IsPathOf faulty q = ⊥
 
--- the file of the areas failed, or the next script
+-- the file of the areas or that of the next script failed
 pub record FailsOther (known : Option (List Tag)) (told : RigTold) (old new : FilesShown) (printed : List ℕ → Type 0)
     : Type 0 where
   pub path : List ℕ
   pub named : IsPathOf (naming told.areas) path ⊎ ComesTo known told old path
   pub fails : PathFails path old new printed
 
--- the watch file failed if one is named, or after it the file of the areas or the next script
+-- A watch file is named and failed; or none is named or it was read, and the file of the areas or that of the next
+-- script failed.
 abbrev pub FailsAfterTags : Option (List Tag) → RigTold → FilesShown → FilesShown → (List ℕ → Type 0) → Type 0
 FailsAfterTags known told old new printed =
     FailsTags told.watch old new printed
     ⊎ ReadsWatch told.watch old (λ watched. FailsOther known told old new printed)
 
--- A FILE FAILED: the tag file if one is named, or after it the watch file if one is named, the file of the areas or the
--- next script
+-- A FILE FAILED: the tag file, the watch file, the file of the areas or a script. Of the files that the words name,
+-- those before it in this order were read.
 abbrev pub FailsOneFile : RigTold → FilesShown → FilesShown → (List ℕ → Type 0) → Type 0
 FailsOneFile told old new printed =
     FailsTags told.tags old new printed ⊎ ReadsTags told.tags old (λ known. FailsAfterTags known told old new printed)
@@ -122,9 +125,10 @@ abbrev pub JobsWanting : RigTold → Memory → List Script → Option Told → 
 JobsWanting told opening scripts before after =
     ToldWanting opening told.journal (rig_config told.pdu told.jobs) scripts (turning_of told) before after
 
--- A RIG RAN over the areas and the scripts that the words name, with the tags of the named file, and with a watcher if a
--- watch file is named; all of them are those of the files if the files show their octets; and its text was printed. If
--- tags are watched, this text shows the watch
+-- A RIG RAN over the areas and the scripts that the words name, and its text was printed, as `PrintsText` states. The
+-- lines of the scripts may name the tags of the tag file, if one is named. If a watch file is named, the rig has a
+-- watcher of the tags there, and its text has the watcher's lines, as `ShowsWatch` states. If the files show their
+-- octets, what was read of them is what they hold.
 pub record RanRig (told : RigTold) (files : FilesShown) (out out' : OutShown) (end : EndTold)
     (how : Ended) : Type 0 where
   pub known : Option (List Tag)
@@ -168,6 +172,7 @@ pub record BreaksOffRig (told : RigTold) (files : FilesShown) (before after : Op
   pub read : ReadsScripts known told.scripts files scripts
   pub wanting : JobsWanting told opening (rig_scripts scripts watched told.rounds) before after
 
--- IF MEMORY RAN OUT, the completion was notified of nothing, or of what `BreaksOffRig` says for a rig that was begun.
+-- IF MEMORY RAN OUT, the completion was notified of nothing, or of the results that `BreaksOffRig` allows for a rig
+-- that was begun.
 abbrev pub RigWanting : RigTold → FilesShown → Option Told → Option Told → Type 0
 RigWanting told files before after = (after ≡ before) ⊎ BreaksOffRig told files before after

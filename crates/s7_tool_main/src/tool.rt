@@ -121,7 +121,7 @@ pub fn tool_main<F: Files, L: Link + Drop, K: Dial<L>, O: Out, C: Completion>(
         (K.shows dial.old) (K.shows dial.new) (Printed (O.shows out.old) (O.shows out.new)) }
     ensures output_failed { result.status ≡ status.output → Rose (O.shows out.old).faults (O.shows out.new).faults }
 
-    // What was done: everything, with all results good or not, or a part.
+    // What was done, if all went well, if not all did, if the output failed, and if memory ran out.
     ensures done { result.status ≡ status.done → CarriesOut L.shows (command_of words.now)
         (F.shows files.old) (K.shows dial.old) (O.shows out.old) (O.shows out.new) result Ended.Done }
     ensures jobs { result.status ≡ status.jobs → CarriesOut L.shows (command_of words.now)
@@ -151,8 +151,8 @@ pub fn tool_main<F: Files, L: Link + Drop, K: Dial<L>, O: Out, C: Completion>(
         → RoseExactly 1 (K.shows dial.old).calls (K.shows dial.new).calls }
     ensures undropped { result.status ≡ status.dial → (K.shows dial.new).next ≡ (K.shows dial.old).next }
 
-    // The completion is handed back, notified of the results that are left. A rig for which memory ran out leaves
-    // none; the completion was notified of those that there were.
+    // The completion is handed back, notified of the results that are left. A rig for which memory ran out leaves no
+    // results; the completion was notified of those that there were by then, or of none.
     ensures handed_back { is_some result.done ≡ is_some done }
     ensures told { (result.status ≢ status.memory) ⊎ IsSome result.run → option_map C.told result.done
         ≡ option_map (λ t. told_of_results t (heard result)) (option_map C.told done) }

@@ -163,8 +163,8 @@ fn run_clients<C: Completion>(
     run_rig(alloc, areas, words.journal, scripts, config, schedule, done)
 }
 
-/// Whether there are this many clients, and each client of a script and the watcher are good. The scripts' lines have
-/// these heads.
+/// Whether there are this many clients, each client of a script is finished with code 0 in all results, and, if tags
+/// are watched, the watcher came to its disconnect with code 0 in all results. The scripts' lines have these heads.
 fn is_rig_good(
     heads: &[Vec<Head>],
     count: usize,

@@ -21,7 +21,7 @@ use s7_partner_run::{TalkEnd, Talker, pair_text, run_pair, talk};
 use s7_script::Sends;
 use std::alloc::Global;
 
-/// The news of two partners, and whether every block of both was acknowledged.
+/// The news of two partners, and whether every block of both partners was acknowledged.
 #[derive(Drop)]
 struct Paired {
     text: Vec<u8>,
