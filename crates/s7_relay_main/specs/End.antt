@@ -5,8 +5,8 @@ use Rattle.s7_outer.specs.FilesShown.{FilesShown}
 use Rattle.s7_outer.specs.OutShown.{OutShown}
 use Rattle.s7_outer.specs.Shown.{Shown}
 use Rattle.s7_session.specs.declared.outcome.Outcome.{Outcome}
-use Rattle.s7_report.specs.Lines.{file_line, memory_line}
-use Rattle.s7_report.specs.Output.{BreaksOff, Gains, Printed}
+use Rattle.s7_program.specs.Lines.{file_line, memory_line}
+use Rattle.s7_program.specs.Output.{BreaksOff, Gains, Printed}
 use Rattle.s7_script.specs.Loading.{PathFailed}
 use Rattle.s7_script.specs.declared.areas.load.LoadFault.{LoadFault}
 use Rattle.s7_relay.specs.Doer.{DoerModel, begins}

@@ -3,8 +3,8 @@ use Rattle.std.specs.Prelude.{◌≡◌, ℕ, List, ◌++◌, codes, Option, Som
 use Rattle.std.specs.Fmt.{decimal}
 use Rattle.s7_outer.specs.OutShown.{OutShown}
 use Rattle.s7_session.specs.declared.outcome.Outcome.{Outcome}
-use Rattle.s7_report.specs.Lines.{file_line, journal_line, line_end, line_with, memory_line, outcome_text}
-use Rattle.s7_report.specs.Output.{BreaksOff, Gains, Printed}
+use Rattle.s7_program.specs.Lines.{file_line, journal_line, line_end, line_with, memory_line, outcome_text}
+use Rattle.s7_program.specs.Output.{BreaksOff, Gains, Printed}
 use Rattle.s7_script.specs.declared.areas.load.LoadFault.{LoadFault}
 use Rattle.s7_script.specs.declared.areas.load.LoadFault.TheVariants as fault
 use Rattle.s7_relay_main.specs.declared.ended.Ended.{Ended}

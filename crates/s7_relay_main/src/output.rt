@@ -1,11 +1,11 @@
 //! Printing the report and the lines for failures.
 ghost use Rattle.std.specs.Prelude.{◌≡◌, IfOk, Some, string_bytes};
-ghost use Rattle.s7_report.specs.Output.{Printed};
+ghost use Rattle.s7_program.specs.Output.{Printed};
 ghost use Rattle.s7_relay_main.specs.Report.{Reports, TellsFault, refusal_line, report_text};
 
 use crate::ended::Ended;
 use s7_outer::Out;
-use s7_report::{file_line, journal_line, line_with, outcome_text, print_line};
+use s7_program::{file_line, journal_line, line_with, outcome_text, print_line};
 use s7_script::LoadFault;
 use s7_session::Outcome;
 use std::alloc::{AllocError, Global};

@@ -8,7 +8,7 @@ use Rattle.s7_plant.specs.Books.{BookTold}
 use Rattle.s7_plant.specs.Journals.{at}
 use Rattle.s7_plant.specs.State.{state_of}
 use Rattle.s7_script.specs.Spelling.{spelling}
-use Rattle.s7_report.specs.Lines.{line_end}
+use Rattle.s7_program.specs.Lines.{line_end}
 use Rattle.s7_server_main.specs.Report.{entry_text}
 
 chosen : (b : Bool) (x y : List ℕ) → b ≡ true → x ≡ cond b x y

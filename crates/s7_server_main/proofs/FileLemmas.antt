@@ -16,7 +16,7 @@ use Rattle.s7_server_main.specs.declared.run.Ended.TheVariants as ended
 use Rattle.s7_server_main.specs.declared.run.Run.{Run}
 use Rattle.s7_server_main.specs.Asked.{AskedTold}
 use Rattle.s7_server_main.specs.End.{Ends, Opens, ReadsNamed}
-use Rattle.s7_report.specs.Output.{BreaksOff, Printed}
+use Rattle.s7_program.specs.Output.{BreaksOff, Printed}
 use Rattle.s7_server_main.specs.Report.{door_line, report_text}
 use Rattle.s7_server_main.specs.Statuses.{door, output, status_of}
 use Rattle.s7_server_main.specs.Told.{run_told}

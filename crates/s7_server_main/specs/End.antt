@@ -11,8 +11,8 @@ use Rattle.s7_plant.specs.Books.{BookTold}
 use Rattle.s7_plant.specs.Journals.{entries_of}
 use Rattle.s7_plant.specs.State.{begins_with, state_of}
 use Rattle.s7_listener.specs.Given.{HasFailed}
-use Rattle.s7_report.specs.Lines.{file_line, memory_line}
-use Rattle.s7_report.specs.Output.{BreaksOff, Gains, Printed}
+use Rattle.s7_program.specs.Lines.{file_line, memory_line}
+use Rattle.s7_program.specs.Output.{BreaksOff, Gains, Printed}
 use Rattle.s7_script.specs.Naming.{Named, path, block, faulty, naming}
 use Rattle.s7_script.specs.Loading.{NamedGives}
 use Rattle.s7_script.specs.declared.areas.load.LoadFault.{LoadFault}

@@ -11,8 +11,8 @@ use Rattle.s7_script.specs.Spelling.{spelling}
 use Rattle.s7_script.specs.declared.areas.load.LoadFault.{LoadFault}
 use Rattle.s7_script.specs.declared.areas.load.LoadFault.TheVariants as fault
 use Rattle.s7_listener.specs.Served.{ServedTold}
-use Rattle.s7_report.specs.Lines.{file_line, journal_line, line_end, line_with, memory_line, outcome_text}
-use Rattle.s7_report.specs.Output.{BreaksOff, Gains, Printed}
+use Rattle.s7_program.specs.Lines.{file_line, journal_line, line_end, line_with, memory_line, outcome_text}
+use Rattle.s7_program.specs.Output.{BreaksOff, Gains, Printed}
 use Rattle.s7_server_main.specs.declared.run.Ended.{Ended}
 use Rattle.s7_server_main.specs.declared.run.Ended.TheVariants as ended
 use Rattle.s7_server_main.specs.Told.{RunTold}

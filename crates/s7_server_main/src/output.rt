@@ -1,6 +1,6 @@
 //! Printing the report and the lines for failures.
 ghost use Rattle.std.specs.Prelude.{◌≡◌};
-ghost use Rattle.s7_report.specs.Output.{Printed};
+ghost use Rattle.s7_program.specs.Output.{Printed};
 ghost use Rattle.s7_server_main.specs.Report.{Reports, TellsFault, report_text};
 ghost use Rattle.s7_server_main.specs.Told.{run_told};
 
@@ -8,7 +8,7 @@ use crate::report::{areas_line, report};
 use crate::run::{Ended, Run};
 use s7_outer::{Link, Out};
 use s7_plant::Observer;
-use s7_report::{file_line, print_line};
+use s7_program::{file_line, print_line};
 use s7_script::LoadFault;
 use std::alloc::Global;
 

@@ -12,7 +12,7 @@ use crate::run::Run;
 use s7_listener::Served;
 use s7_outer::{Link, Memory};
 use s7_plant::{Book, Observer, Plant, Steps};
-use s7_report::{journal_line, line_with, outcome_text};
+use s7_program::{journal_line, line_with, outcome_text};
 use s7_script::{LoadFault, write_areas};
 use std::alloc::{AllocError, Global};
 use std::marker::Brand;

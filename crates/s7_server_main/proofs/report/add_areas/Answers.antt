@@ -4,7 +4,7 @@ use Rattle.std.specs.Fmt.{decimal}
 use Rattle.s7_plant.specs.Books.{book_told}
 use Rattle.s7_plant.specs.State.{State}
 use Rattle.s7_script.specs.Spelling.{spelling}
-use Rattle.s7_report.specs.Lines.{line_end}
+use Rattle.s7_program.specs.Lines.{line_end}
 use Rattle.s7_server_main.proofs.EntryLemmas.{there}
 use Rattle.s7_server_main.proofs.report.add_areas.Goals as goal
 

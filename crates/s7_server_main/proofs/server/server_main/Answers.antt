@@ -3,7 +3,7 @@ use Rattle.s7_listener.specs.Given.{HasFailed}
 use Rattle.s7_server_main.specs.Asked.{AskedTold, asked_by, asked_told}
 use Rattle.s7_script.specs.Naming.{naming}
 use Rattle.s7_server_main.specs.End.{DoorFails, ReadsNamed, entry_asked}
-use Rattle.s7_report.specs.Output.{Printed}
+use Rattle.s7_program.specs.Output.{Printed}
 use Rattle.s7_server_main.specs.Report.{door_line}
 use Rattle.s7_args.specs.Shown.{server_told_of}
 use Rattle.s7_server_main.proofs.FileLemmas.{broken, door_told}

@@ -1,6 +1,6 @@
 //! Lines about links, journals and files.
 ghost use Rattle.std.specs.Prelude.{◌≡◌, IfOk, string_bytes};
-ghost use Rattle.s7_report.specs.Lines.{file_line, journal_line, line_with, outcome_text};
+ghost use Rattle.s7_program.specs.Lines.{file_line, journal_line, line_with, outcome_text};
 
 use s7_session::Outcome;
 use std::alloc::{AllocError, Global};

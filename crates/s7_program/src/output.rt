@@ -1,5 +1,5 @@
 //! Printing lines.
-ghost use Rattle.s7_report.specs.Output.{Printed};
+ghost use Rattle.s7_program.specs.Output.{Printed};
 
 use s7_outer::Out;
 

@@ -1,8 +1,0 @@
-//! What programs print about the links that they served and about what failed.
-#![tactic(auto)]
-
-mod lines;
-mod output;
-
-pub use lines::{file_line, journal_line, line_with, outcome_text};
-pub use output::print_line;
