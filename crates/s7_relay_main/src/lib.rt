@@ -9,4 +9,4 @@ mod output;
 mod relay;
 
 pub use ended::RelayEnd;
-pub use relay::{MEMORY, relay_main};
+pub use relay::relay_main;

@@ -13,4 +13,4 @@ mod serve;
 mod server;
 
 pub use run::{Run, ServerEnd};
-pub use server::{MEMORY, server_main};
+pub use server::server_main;

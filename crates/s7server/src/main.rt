@@ -4,10 +4,8 @@
 use s7_os::{RealLink, StdFiles, StdOut, TcpDoor};
 use s7_outer::{Memory, OpenGate, Out};
 use s7_plant::Tail;
-use s7_server_main::{MEMORY, server_main};
-use std::alloc::{AllocError, Global};
-use std::env;
-use std::io::ErrorKind;
+use s7_program::{exit_code, lent_words, own_words};
+use s7_server_main::server_main;
 use std::net::{Net, TcpListener, TcpStream};
 use std::process::ExitCode;
 use std::rt::{Env, Runtime};
@@ -18,10 +16,10 @@ use std::thread::Threads;
 fn main(rt: HostRuntime) -> ExitCode {
     if is_pipe(&rt) {
         let mut out = StdOut::new(rt.stderr());
-        ended(run(&rt, &mut out), &mut out)
+        exit_code(run(&rt, &mut out), &mut out)
     } else {
         let mut out = StdOut::new(rt.stdout());
-        ended(run(&rt, &mut out), &mut out)
+        exit_code(run(&rt, &mut out), &mut out)
     }
 }
 
@@ -59,30 +57,4 @@ where
         observers,
     );
     Ok(end.status)
-}
-
-/// The words of the command line. If one of them isn't UTF-8, the list is empty, and an empty list names no command.
-fn own_words<R: Env + AllocGlobal>(rt: &R) -> Result<Vec<String>, AllocError> {
-    match env::args(rt) {
-        Ok(words) => words.skip(1).collect(rt.alloc()),
-        Err(error) if error.kind() == ErrorKind::OutOfMemory => Err(AllocError),
-        Err(_) => Ok(Vec::new(rt.alloc())),
-    }
-}
-
-/// The words, borrowed.
-fn lent_words(alloc: Global, owned: &[String]) -> Result<Vec<&str>, AllocError> {
-    owned.iter().map(|word| word.as_str()).collect(alloc)
-}
-
-/// The exit code of this status. If there is no status, memory ran out; then prints a line that says so, and ignores a
-/// failure of the output.
-fn ended<O: Out>(status: Result<u8, Memory>, out: &mut O) -> ExitCode {
-    match status {
-        Ok(status) => ExitCode::from(status),
-        Err(_) => {
-            let _ = out.put(b"memory\n");
-            ExitCode::from(MEMORY)
-        }
-    }
 }
