@@ -1,31 +1,32 @@
 -- The exit statuses of the program, this project's own.
 use Rattle.std.specs.Prelude.{ℕ}
+use Rattle.s7_program.specs.Statuses as shared
 use Rattle.s7_relay_main.specs.declared.ended.Ended.{Ended}
 use Rattle.s7_relay_main.specs.declared.ended.Ended.TheVariants as ended
 
 -- all went well
 abbrev pub done : ℕ
-done = 0
+done = shared.done
 
 -- the words are no command line
 abbrev pub usage : ℕ
-usage = 1
+usage = shared.usage
 
 -- the windows can't be read
 abbrev pub windows : ℕ
-windows = 2
+windows = shared.refused
 
 -- the windows file failed
 abbrev pub file : ℕ
-file = 3
+file = shared.file
 
 -- the output failed
 abbrev pub output : ℕ
-output = 5
+output = shared.output
 
 -- memory ran out
 abbrev pub memory : ℕ
-memory = 9
+memory = shared.memory
 
 -- the status for how the program ended
 abbrev pub status_of : Ended → ℕ

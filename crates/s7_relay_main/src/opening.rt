@@ -8,10 +8,11 @@ ghost use Rattle.s7_relay_main.specs.End.{Opens, Unopened};
 
 use crate::ended::Ended;
 use crate::load::load_windows;
-use crate::output::{print_as, print_refusal};
+use crate::output::print_refusal;
 use s7_args::RelayWords;
 use s7_client::Config;
 use s7_outer::{Dial, Files, Link, Memory, Octets, Out};
+use s7_program::print_as;
 use s7_relay::{RelayDoer, Windows};
 use std::alloc::Global;
 

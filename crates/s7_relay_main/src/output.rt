@@ -1,11 +1,10 @@
 //! Printing the report and the lines for failures.
 ghost use Rattle.std.specs.Prelude.{◌≡◌, IfOk, Some, string_bytes};
-ghost use Rattle.s7_program.specs.Output.{Printed};
 ghost use Rattle.s7_relay_main.specs.Report.{Reports, TellsFault, refusal_line, report_text};
 
 use crate::ended::Ended;
 use s7_outer::Out;
-use s7_program::{file_line, journal_line, line_with, outcome_text, print_line};
+use s7_program::{file_line, journal_line, line_with, outcome_text, print_as};
 use s7_script::LoadFault;
 use s7_session::Outcome;
 use std::alloc::{AllocError, Global};
@@ -71,13 +70,4 @@ fn windows_line(alloc: Global, number: u32) -> Result<String, AllocError>
     ensures { IfOk result (λ text. refusal_line (LoadFault.Line number) ≡ Some (string_bytes text)) }
 {
     format!(in alloc; "windows line {number}\n")
-}
-
-/// Prints this line, and returns `ended`.
-pub(crate) fn print_as<O: Out>(ended: Ended, line: &[u8], out: &mut O) -> Ended
-    ensures ended { result ≡ ended }
-    ensures line { Printed (O.shows out.old) (O.shows out.new) line.now }
-{
-    print_line(line, out);
-    ended
 }

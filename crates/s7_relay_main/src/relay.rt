@@ -17,28 +17,10 @@ use crate::opening::open_doer;
 use crate::output::print_report;
 use s7_args::{RelayWords, read_relay_words};
 use s7_outer::{Clock, Dial, Files, Link, Out};
-use s7_program::print_line;
+use s7_program::{DONE, FILE, MEMORY, OUTPUT, REFUSED, USAGE, print_line};
 use std::alloc::{AllocError, Global};
 use std::sync::Wait;
 use std::time;
-
-/// The status if all went well.
-pub const DONE: u8 = 0;
-
-/// The status if the words are no command line.
-pub const USAGE: u8 = 1;
-
-/// The status if the windows can't be read.
-pub const WINDOWS: u8 = 2;
-
-/// The status if the windows file failed.
-pub const FILE: u8 = 3;
-
-/// The status if the output failed.
-pub const OUTPUT: u8 = 5;
-
-/// The status if memory ran out.
-pub const MEMORY: u8 = 9;
 
 /// Parses the words, loads the windows file that they name, serves the near link over these windows as link 1, shuts
 /// it, and prints the report. What the near link asks of a window is asked of the server that `dial` reaches at the
@@ -200,7 +182,7 @@ fn status_of(ended: Ended) -> u8
 {
     match ended {
         Ended::Done => DONE,
-        Ended::Windows => WINDOWS,
+        Ended::Windows => REFUSED,
         Ended::File => FILE,
         Ended::Output => OUTPUT,
         Ended::Memory => MEMORY,

@@ -1,35 +1,36 @@
 -- The exit statuses of the program, this profile's own.
 use Rattle.std.specs.Prelude.{ℕ}
+use Rattle.s7_program.specs.Statuses as shared
 use Rattle.s7_server_main.specs.declared.run.Ended.{Ended}
 use Rattle.s7_server_main.specs.declared.run.Ended.TheVariants as ended
 
 -- all went well
 abbrev pub done : ℕ
-done = 0
+done = shared.done
 
 -- the words are no command
 abbrev pub usage : ℕ
-usage = 1
+usage = shared.usage
 
 -- the areas can't be read
 abbrev pub areas : ℕ
-areas = 2
+areas = shared.refused
 
 -- a file failed
 abbrev pub file : ℕ
-file = 3
+file = shared.file
 
 -- the door failed before a link came
 abbrev pub door : ℕ
-door = 4
+door = shared.unreached
 
 -- the output failed
 abbrev pub output : ℕ
-output = 5
+output = shared.output
 
 -- memory ran out
 abbrev pub memory : ℕ
-memory = 9
+memory = shared.memory
 
 -- the status for how the command ended
 abbrev pub status_of : Ended → ℕ

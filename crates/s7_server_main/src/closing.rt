@@ -6,11 +6,12 @@ ghost use Rattle.s7_server_main.specs.End.{Ends};
 ghost use Rattle.s7_server_main.specs.Saving.{ChangesOnly, HoldsAreas};
 
 use crate::asked::Asked;
-use crate::output::{print_as, print_failed, print_report};
+use crate::output::{print_failed, print_report};
 use crate::run::{Ended, Run};
 use s7_area::Areas;
 use s7_outer::{FileFault, Files, Link, Out};
 use s7_plant::Observer;
+use s7_program::print_as;
 use s7_script::write_areas;
 use std::alloc::Global;
 

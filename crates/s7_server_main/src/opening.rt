@@ -10,12 +10,13 @@ ghost use Rattle.s7_server_main.specs.End.{Opens, Unopened};
 ghost use Rattle.s7_server_main.specs.Saving.{ChangesOnly};
 
 use crate::asked::Asked;
-use crate::output::{print_as, print_refusal};
+use crate::output::print_refusal;
 use crate::run::Ended;
 use s7_area::Areas;
 use s7_block::Blocks;
 use s7_outer::{Files, Memory, Out};
 use s7_plant::{Book, MOST_BLOCKS, Observer};
+use s7_program::print_as;
 use s7_script::load_areas;
 use std::alloc::Global;
 

@@ -1,6 +1,4 @@
 //! Printing the report and the lines for failures.
-ghost use Rattle.std.specs.Prelude.{◌≡◌};
-ghost use Rattle.s7_program.specs.Output.{Printed};
 ghost use Rattle.s7_server_main.specs.Report.{Reports, TellsFault, report_text};
 ghost use Rattle.s7_server_main.specs.Told.{run_told};
 
@@ -8,7 +6,7 @@ use crate::report::{areas_line, report};
 use crate::run::{Ended, Run};
 use s7_outer::{Link, Out};
 use s7_plant::Observer;
-use s7_program::{file_line, print_line};
+use s7_program::{file_line, print_as};
 use s7_script::LoadFault;
 use std::alloc::Global;
 
@@ -58,13 +56,4 @@ pub(crate) fn print_failed<O: Out>(alloc: Global, path: &str, out: &mut O) -> En
         Ok(text) => print_as(Ended::File, text.as_bytes(), out),
         Err(_) => print_as(Ended::Memory, b"memory\n", out),
     }
-}
-
-/// Prints this line, and returns `ended`.
-pub(crate) fn print_as<O: Out>(ended: Ended, line: &[u8], out: &mut O) -> Ended
-    ensures ended { result ≡ ended }
-    ensures line { Printed (O.shows out.old) (O.shows out.new) line.now }
-{
-    print_line(line, out);
-    ended
 }

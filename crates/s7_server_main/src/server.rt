@@ -23,32 +23,11 @@ use crate::serve::run_serve;
 use s7_args::{ServerWords, read_server_words};
 use s7_outer::{Clock, Door, Files, Gate, Link, Out};
 use s7_plant::Observer;
-use s7_program::print_line;
+use s7_program::{DONE, FILE, MEMORY, OUTPUT, REFUSED, UNREACHED, USAGE, print_line};
 use std::alloc::Global;
 use std::sync::Wait;
 use std::thread::Threads;
 use std::time;
-
-/// The status if all went well.
-pub const DONE: u8 = 0;
-
-/// The status if the words are no command.
-pub const USAGE: u8 = 1;
-
-/// The status if the areas can't be read.
-pub const AREAS: u8 = 2;
-
-/// The status if a file failed.
-pub const FILE: u8 = 3;
-
-/// The status if the door can't listen, or failed before a link came.
-pub const DOOR: u8 = 4;
-
-/// The status if the output failed.
-pub const OUTPUT: u8 = 5;
-
-/// The status if memory ran out.
-pub const MEMORY: u8 = 9;
 
 /// Parses the words, loads the areas that they name, serves links over these areas with a journal of the stated length,
 /// saves the areas that are left if the words ask for it, and prints the report. `pipe` serves the one link. `serve`
@@ -222,9 +201,9 @@ fn status_of(ended: Ended) -> u8
 {
     match ended {
         Ended::Done => DONE,
-        Ended::Areas => AREAS,
+        Ended::Areas => REFUSED,
         Ended::File => FILE,
-        Ended::Door => DOOR,
+        Ended::Door => UNREACHED,
         Ended::Output => OUTPUT,
         Ended::Memory => MEMORY,
     }
