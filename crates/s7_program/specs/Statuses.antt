@@ -5,7 +5,7 @@ use Rattle.std.specs.Prelude.{ℕ}
 abbrev pub done : ℕ
 done = 0
 
--- the words are no command
+-- the words are no command line of the program
 abbrev pub usage : ℕ
 usage = 1
 
@@ -17,7 +17,7 @@ refused = 2
 abbrev pub file : ℕ
 file = 3
 
--- the outside wasn't reached: the door failed before a link came, or the dial failed
+-- the outside wasn't reached: the door can't listen, or failed before a link came, or the dial failed
 abbrev pub unreached : ℕ
 unreached = 4
 

@@ -1,7 +1,9 @@
 //! What the `main` functions of the programs share: the words of the command line, and the exit code.
-ghost use Rattle.std.specs.Prelude.{◌≡◌, OnOk, OnErr};
+ghost use Rattle.std.specs.Prelude.{◌≡◌, IfOk, OnErr, OnOk};
+ghost use Rattle.std.specs.Process.{exit_status};
 ghost use Rattle.s7_program.specs.Lines.{memory_line};
 ghost use Rattle.s7_program.specs.Output.{Printed};
+ghost use Rattle.s7_program.specs.Statuses as statuses;
 
 use crate::output::print_line;
 use crate::statuses::MEMORY;
@@ -12,8 +14,8 @@ use std::io::ErrorKind;
 use std::process::ExitCode;
 use std::rt::Env;
 
-/// The words of the command line. If one of them isn't UTF-8 there are none, and no words are no command. Returns
-/// `AllocError` if an allocation fails.
+/// The words of the command line behind the program's name. If one of them isn't UTF-8 there are none, and no words are
+/// no command line of a program. Returns `AllocError` if an allocation fails.
 pub fn own_words<R: Env + AllocGlobal>(rt: &R) -> Result<Vec<String>, AllocError> {
     match env::args(rt) {
         Ok(words) => words.skip(1).collect(rt.alloc()),
@@ -30,7 +32,9 @@ pub fn lent_words(alloc: Global, owned: &[String]) -> Result<Vec<&str>, AllocErr
 /// The exit code of this status. Without a status memory ran out: prints a line that says so, and ignores a failure of
 /// the output.
 pub fn exit_code<O: Out>(status: Result<u8, Memory>, out: &mut O) -> ExitCode
+    ensures code { IfOk status (λ code. exit_status result ≡ code) }
     ensures silent { OnOk status (O.shows out.new ≡ O.shows out.old) }
+    ensures lacks_memory { OnErr status (exit_status result ≡ statuses.memory) }
     ensures line { OnErr status (Printed (O.shows out.old) (O.shows out.new) memory_line) }
 {
     match status {

@@ -3,7 +3,7 @@
 /// The status if all went well.
 pub const DONE: u8 = 0;
 
-/// The status if the words are no command.
+/// The status if the words are no command line of the program.
 pub const USAGE: u8 = 1;
 
 /// The status if what the words name can't be read: areas, windows, tags, a script or a sends file.
@@ -12,7 +12,7 @@ pub const REFUSED: u8 = 2;
 /// The status if a file failed.
 pub const FILE: u8 = 3;
 
-/// The status if the outside wasn't reached: the door can't listen or failed before a link came, or the dial failed.
+/// The status if the outside wasn't reached: the door can't listen, or failed before a link came, or the dial failed.
 pub const UNREACHED: u8 = 4;
 
 /// The status if the output failed.
