@@ -1,5 +1,9 @@
 pub mod OwnLemmas
 pub mod FoundLemmas
+pub mod CallLemmas
+pub mod ItemLemmas
+pub mod OpenedLemmas
+pub mod CompleteLemmas
 pub mod ServedLemmas
 pub mod WorkLemmas
 pub mod OverLemmas

@@ -3,6 +3,7 @@ pub mod Seats
 pub mod SeatLaws
 pub mod Found
 pub mod Served
+pub mod Complete
 pub mod Benches
 pub mod SeatShown
 pub mod Given
