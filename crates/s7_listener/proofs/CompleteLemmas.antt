@@ -1,10 +1,11 @@
 -- What becomes of a telegram that is asked of the plant, by its verdict.
-use Rattle.std.proofs.Common.{◌≡◌, ◌≢◌, ℕ, ◌+◌, ◌/◌, ◌%◌, Bool, true, false, true≢false, cond, ◌&&◌, List, [], ◌∷◌, ◌++◌}
+use Rattle.std.proofs.Common.{◌≡◌, ◌≢◌, ℕ, ◌+◌, ◌/◌, ◌%◌, ◌≤◌, Bool, true, false, true≢false, cond, ◌&&◌, List, [], ◌∷◌, ◌++◌}
 use Rattle.std.proofs.Common.{length, map, refl, ap, sym, ◌∙◌, subst, arith, append_assoc, append-nil, length-append, le-leb}
 use Rattle.std.specs.Prelude.{Option, None, Some}
 use Rattle.std.specs.List.{AllByRecursion}
 use Rattle.s7_outer.specs.Numbers.{number_of_two}
 use Rattle.s7_outer.specs.Shown.{Shown}
+use Rattle.s7_header.specs.Negotiation.{most_pdu}
 use Rattle.s7_item.specs.declared.item.Item.{Item}
 use Rattle.s7_item.specs.Codes.{read_function, write_function}
 use Rattle.s7_item.specs.DataItem.{DataItem, data_octets}
@@ -30,15 +31,16 @@ use Rattle.s7_session.specs.Judgement.{Asking, Judgement, asks_plainly, judge, p
 use Rattle.s7_session.specs.LinkRun.{IsWritten, IsEnd}
 use Rattle.s7_session.specs.LinkState.{LinkState}
 use Rattle.s7_session.specs.Owed.{Past, start, with_made, if_lives, next, run, past, owed, end_of, end_by, standing_with}
-use Rattle.s7_session.specs.Spelled.{job_spelled, read_spelled, write_spelled}
+use Rattle.s7_session.specs.Spelled.{IsSpelled, job_spelled, read_spelled, write_spelled}
 use Rattle.s7_session.specs.Telegrams.{Met, met, verdicts_of, entered_of, AnyFull, IsCaused, AreCaused}
 use Rattle.s7_session.specs.Verdict.{Verdict, Entered, Full, ClockFailed, NoMemory}
 use Rattle.s7_session.proofs.ConsumeLemmas.{entered-append}
 use Rattle.s7_session.proofs.PastLemmas.{IsOver, next_at, run-append}
 use Rattle.s7_session.proofs.SpelledLemmas.{reads_are_asked, writes_are_asked}
-use Rattle.s7_listener.specs.Complete.{Telegram, before, right_of, state_at, memory_at, IsCallOf, Answers, IsRefusedAsFull}
+use Rattle.s7_listener.specs.Complete.{Telegram, IsFitting, before, right_of, state_at, memory_at, IsCallOf, Answers, IsRefusedAsFull}
 use Rattle.s7_listener.specs.Complete.{ArePutAs, IsReadAnswered, ReadEnds, ReadsAreAnswered, IsWriteAnswered, WriteEnds, WritesAreAnswered}
 use Rattle.s7_listener.proofs.CallLemmas.{IsOwnCall, call_of, state_next}
+use Rattle.s7_listener.proofs.GrantLemmas.{grants_are_bounded}
 use Rattle.s7_listener.proofs.ItemLemmas.{reads_as, puts_as}
 use Rattle.s7_listener.proofs.OpenedLemmas.{IsSized, no_s7, messages_follow_openings}
 
@@ -368,6 +370,30 @@ spelled_is_s7 sequence params body =
 spelled_number : (sequence : ℕ) (params body : List ℕ) → sequence_of (job_spelled sequence params body) ≡ sequence
 spelled_number sequence params body = two_of sequence
 
+-- ---- the PDU of a telegram
+
+none_some : (o : Option ℕ) (n : ℕ) → o ≡ Some n → o ≢ None
+none_some o n some = λ none. cc (none, some)
+
+-- a link that began without a PDU has at most the greatest
+pdu_within : (t : Telegram) (pdu : ℕ) → (before t).link.granted ≡ Some pdu → (t.first.granted ≢ None → pdu ≤ most_pdu) → pdu ≤ most_pdu
+pdu_within t pdu is bounded = by_first t.first.granted refl
+  where
+    by_first : (o : Option ℕ) → t.first.granted ≡ o → pdu ≤ most_pdu
+    by_first None none = grants_are_bounded t.first (verdicts_of t.line.mets) t.earlier pdu none is
+    by_first (Some n) some = bounded (none_some t.first.granted n some)
+
+spelled_by : (t : Telegram) (pdu sequence : ℕ) (items : List Item) (telegram : List ℕ) → IsFitting t pdu sequence items telegram
+    → IsSpelled (before t).link pdu sequence items telegram
+spelled_by t pdu sequence items telegram is = record {
+  granted = is.granted;
+  pdu_is = pdu_within t pdu is.granted is.bounded;
+  numbered = is.numbered;
+  some = is.some;
+  most = is.most;
+  fits = is.fits;
+}
+
 -- ---- reads
 
 read_answered : (t : Telegram) (sequence : ℕ) (items : List Item) (reply : Said) (moment : ℕ) (vs : List Verdict)
@@ -395,8 +421,10 @@ read_ends t sequence items (NoMemory ∷ vs) is =
     true≢false (sym (has_copy t sequence (Read items) vs (runs t (asked_made t sequence (Read items) (NoMemory ∷ vs)) is)))
 
 pub reads_are_answered : ReadsAreAnswered
-reads_are_answered t pdu sequence items octets spelled room =
+reads_are_answered t pdu sequence items octets fitting room =
     let params = items_params read_function items in
+    let spelled : IsSpelled (before t).link pdu sequence items (read_spelled sequence items) =
+    spelled_by t pdu sequence items (read_spelled sequence items) fitting in
     read_ends t sequence items (before t).verdicts
     (next_asks t sequence (Read items)
     (ap (λ (m : List ℕ). is_s7 m) octets ∙ spelled_is_s7 sequence params [])
@@ -456,9 +484,11 @@ write_ends t sequence items values (NoMemory ∷ vs) many octets is =
     (runs t (asked_made t sequence (write_asked items values) (NoMemory ∷ vs)) is)
 
 pub writes_are_answered : WritesAreAnswered
-writes_are_answered t pdu sequence items values spells spelled many octets room =
+writes_are_answered t pdu sequence items values spells fitting many octets room =
     let params = items_params write_function items in
     let body = data_octets values in
+    let spelled : IsSpelled (before t).link pdu sequence items (write_spelled sequence items values) =
+    spelled_by t pdu sequence items (write_spelled sequence items values) fitting in
     write_ends t sequence items values (before t).verdicts many octets
     (next_asks t sequence (write_asked items values)
     (ap (λ (m : List ℕ). is_s7 m) spells ∙ spelled_is_s7 sequence params body)

@@ -3,6 +3,7 @@ pub mod FoundLemmas
 pub mod CallLemmas
 pub mod ItemLemmas
 pub mod OpenedLemmas
+pub mod GrantLemmas
 pub mod CompleteLemmas
 pub mod ServedLemmas
 pub mod WorkLemmas

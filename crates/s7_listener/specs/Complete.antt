@@ -1,8 +1,8 @@
 -- COMPLETENESS: a read or write telegram that is spelled as the standard has it, on a link that negotiated, is answered
 -- item for item, if the telegram and its full answer fit the PDU (Snap7 1.4 reference manual, `Cli_ReadMultiVars`,
 -- `Cli_WriteMultiVars`).
-use Rattle.std.specs.Prelude.{◌≡◌, ◌≢◌, ℕ, ◌+◌, ◌≤◌, Bool, true, false, List, [], ◌∷◌, ◌++◌, length, map, take}
-use Rattle.std.specs.Prelude.{◌==◌, slice_get, Some}
+use Rattle.std.specs.Prelude.{◌≡◌, ◌≢◌, ℕ, ◌+◌, ◌<◌, ◌≤◌, Bool, true, false, List, [], ◌∷◌, ◌++◌, length, map, take}
+use Rattle.std.specs.Prelude.{◌==◌, slice_get, None, Some}
 use Rattle.std.specs.List.{AllByRecursion}
 use Rattle.s7_item.specs.declared.item.Item.{Item}
 use Rattle.s7_item.specs.Codes.{bits, read_function, write_function}
@@ -14,6 +14,7 @@ use Rattle.s7_area.specs.Guards.{is_read_barred, is_write_barred}
 use Rattle.s7_area.specs.Memory.{Memory, area_octets, read_octets, write_code, written}
 use Rattle.s7_area.specs.Places.{is_misfit, is_inside, key_of, value_at}
 use Rattle.s7_outer.specs.Shown.{Shown}
+use Rattle.s7_header.specs.Negotiation.{most_pdu}
 use Rattle.s7_wire.specs.Reading.{Event, message, reading}
 use Rattle.s7_wire.specs.Sent.{sent_message}
 use Rattle.s7_wire.specs.declared.found.Opening.TheVariants.{Request}
@@ -32,7 +33,7 @@ use Rattle.s7_session.specs.Events.{lives}
 use Rattle.s7_session.specs.Judgement.{answer_octets, refusal_octets}
 use Rattle.s7_session.specs.LinkState.{LinkState}
 use Rattle.s7_session.specs.Owed.{Past, start, run, owed}
-use Rattle.s7_session.specs.Spelled.{IsSpelled, read_spelled, write_spelled}
+use Rattle.s7_session.specs.Spelled.{read_spelled, write_spelled}
 use Rattle.s7_session.specs.Telegrams.{entered_of, verdicts_of}
 use Rattle.s7_session.specs.Verdict.{Verdict, Entered, Full, ClockFailed, NoMemory}
 use Rattle.s7_listener.specs.Served.{ServedTold, IsServedLink}
@@ -56,10 +57,27 @@ pub record Telegram : Type 0 where
   pub events : (reading Request line.taken).events ≡ earlier ++ message octets at ∷ later
   pub living : (run (start first (verdicts_of line.mets)) earlier).standing ≡ lives
 
+-- A LINK THAT BEGINS WITHOUT A PDU is never granted one above the greatest PDU.
+abbrev pub GrantsAreBounded : Type 0
+GrantsAreBounded =
+    (first : LinkState) (verdicts : List Verdict) (events : List Event) (pdu : ℕ) → first.granted ≡ None
+    → (run (start first verdicts) events).link.granted ≡ Some pdu → pdu ≤ most_pdu
+
 -- the result of the events before it: among others, the link's state and the verdicts of the telegrams to come, of
 -- which the first is its own
 abbrev pub before : Telegram → Past
 before t = run (start t.first (verdicts_of t.line.mets)) t.earlier
+
+-- IT IS OF THESE ITEMS AND FITS THIS PDU: its link was granted the PDU, there are one to twenty items (Snap7 1.4
+-- reference manual, `Cli_ReadMultiVars`), its sequence has two octets, and it isn't longer than the PDU. Only where the
+-- link began with a PDU, it has to be known that this one is at most the greatest.
+pub record IsFitting (t : Telegram) (pdu sequence : ℕ) (items : List Item) (telegram : List ℕ) : Type 0 where
+  pub granted : (before t).link.granted ≡ Some pdu
+  pub bounded : t.first.granted ≢ None → pdu ≤ most_pdu
+  pub numbered : sequence < 65536
+  pub some : 0 < length items
+  pub most : length items ≤ 20
+  pub fits : length telegram ≤ pdu
 
 -- the right of its link
 abbrev pub right_of : Telegram → Bool
@@ -164,7 +182,7 @@ ReadEnds t sequence items (NoMemory ∷ verdicts) = ⊥
 abbrev pub ReadsAreAnswered : Type 0
 ReadsAreAnswered =
     (t : Telegram) (pdu sequence : ℕ) (items : List Item) → t.octets ≡ read_spelled sequence items
-    → IsSpelled (before t).link pdu sequence items (read_spelled sequence items) → answer_size items ≤ pdu
+    → IsFitting t pdu sequence items (read_spelled sequence items) → answer_size items ≤ pdu
     → ReadEnds t sequence items (before t).verdicts
 
 -- ---- writes
@@ -194,6 +212,6 @@ abbrev pub WritesAreAnswered : Type 0
 WritesAreAnswered =
     (t : Telegram) (pdu sequence : ℕ) (items : List Item) (values : List DataItem)
     → t.octets ≡ write_spelled sequence items values
-    → IsSpelled (before t).link pdu sequence items (write_spelled sequence items values)
+    → IsFitting t pdu sequence items (write_spelled sequence items values)
     → length values ≡ length items → AllByRecursion HasOctets values → 14 + length items ≤ pdu
     → WriteEnds t sequence items values (before t).verdicts

@@ -1,5 +1,5 @@
 //! Laws of links that were served.
-ghost use Rattle.s7_listener.specs.Complete.{ReadsAreAnswered, WritesAreAnswered};
+ghost use Rattle.s7_listener.specs.Complete.{GrantsAreBounded, ReadsAreAnswered, WritesAreAnswered};
 ghost use Rattle.s7_listener.specs.Found.{FoundIsFull, LegalIsFound};
 
 /// A law: take a history that is legal for a link. In the order of the link's telegrams, each telegram that was entered
@@ -15,10 +15,15 @@ pub fn telegrams_found_a_full_history()
     ensures { FoundIsFull }
 {}
 
+/// A law: a link that begins without a PDU is never granted one above the greatest PDU, which is 1,920 octets.
+pub fn grants_are_bounded()
+    ensures { GrantsAreBounded }
+{}
+
 /// A law: take a read telegram of a served link, spelled as the standard has it, on a link that negotiated. Let the
-/// telegram and its full answer fit the PDU. Then the history has its call, unless a transmit failed or the history is
-/// full. Each item is answered by the areas as the calls before left them: with FF and its octets if it is in range and
-/// the link may read it.
+/// telegram and its full answer fit the PDU, which is at most 1,920 octets if the link began with one. Then the history
+/// has its call, unless a transmit failed or the history is full. Each item is answered by the areas as the calls before
+/// left them: with FF and its octets if it is in range and the link may read it.
 pub fn spelled_reads_are_answered()
     ensures { ReadsAreAnswered }
 {}

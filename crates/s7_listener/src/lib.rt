@@ -20,8 +20,8 @@ pub use hall_doer::HallDoer;
 pub use hosted::{Hosted, NotHosted};
 pub use keeper::Keeper;
 pub use laws::{
-    legal_telegrams_found_their_calls, spelled_reads_are_answered, spelled_writes_are_answered,
-    telegrams_found_a_full_history,
+    grants_are_bounded, legal_telegrams_found_their_calls, spelled_reads_are_answered,
+    spelled_writes_are_answered, telegrams_found_a_full_history,
 };
 pub use served::Served;
 pub use worker::serve_link;
