@@ -34,7 +34,7 @@ line_then [] rest plain = refl
 line_then (b ∷ line) rest plain =
     rw (isn't b 10 plain.0, isn't b 13 plain.1) (ap (with_first b) (line_then line rest plain.2))
 
-abbrev is_plain : ℕ → Bool
+abbrev pub is_plain : ℕ → Bool
 is_plain b = not (b == 10) && not (b == 13)
 
 pub plain_by_test : (l : Text) → list_all is_plain l ≡ true → AllPlain l

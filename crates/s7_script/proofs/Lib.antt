@@ -15,3 +15,6 @@ pub mod PrintLemmas
 pub mod FormLemmas
 pub mod MoveLemmas
 pub mod TagLineLemmas
+pub mod DateLemmas
+pub mod BackLemmas
+pub mod NamedLemmas

@@ -11,10 +11,10 @@ abbrev pub begun : Text → List Text → List Text
 begun seen [] = seen ∷ []
 begun seen (part ∷ rest) = (seen ++ part) ∷ rest
 
-abbrev begins : Text → Type 0
+abbrev pub begins : Text → Type 0
 begins xs = bytes_eq (codes " ; ") (take 3 xs) ≡ true
 
-abbrev differs : Text → Type 0
+abbrev pub differs : Text → Type 0
 differs xs = bytes_eq (codes " ; ") (take 3 xs) ≡ false
 
 short : (x : Bool) → (x && false) ≡ true → ⊥
@@ -25,14 +25,14 @@ shorter : (x y : Bool) → (x && (y && false)) ≡ true → ⊥
 shorter true y h = short y h
 shorter false y h = cc
 
-at_joint : (xs : Text) → begins xs → parts xs ≡ [] ∷ parts (drop 3 xs)
+pub at_joint : (xs : Text) → begins xs → parts xs ≡ [] ∷ parts (drop 3 xs)
 unfolding parts
 at_joint [] h = cc
 at_joint (a ∷ []) h = absurd (short (32 == a) h)
 at_joint (a ∷ b ∷ []) h = absurd (shorter (32 == a) (59 == b) h)
 at_joint (a ∷ b ∷ c ∷ rest) h = rw h refl
 
-no_joint : (x : ℕ) (xs : Text) → differs (x ∷ xs) → parts (x ∷ xs) ≡ with_first x (parts xs)
+pub no_joint : (x : ℕ) (xs : Text) → differs (x ∷ xs) → parts (x ∷ xs) ≡ with_first x (parts xs)
 unfolding parts
 no_joint a [] h = refl
 no_joint a (b ∷ []) h = refl

@@ -174,18 +174,18 @@ number_back n low =
 octets_spaceless : (xs : List ℕ) → IsBytes xs → Lacks 32 (encode_lower xs)
 octets_spaceless xs octets = hex_spaceless (encode_lower xs) (encoded_hex xs (bytes_of xs octets))
 
-first_is : (front rest : Text) → Lacks 32 front → field_of (front ++ 32 ∷ rest) ≡ front
+pub first_is : (front rest : Text) → Lacks 32 front → field_of (front ++ 32 ∷ rest) ≡ front
 first_is front rest h =
     ap (first_field (front ++ 32 ∷ rest)) (position_at 32 front rest h) ∙ take_front front (32 ∷ rest)
 
-rest_is : (front rest : Text) → Lacks 32 front → rest_of (front ++ 32 ∷ rest) ≡ Some rest
+pub rest_is : (front rest : Text) → Lacks 32 front → rest_of (front ++ 32 ∷ rest) ≡ Some rest
 rest_is front rest h =
     ap (fields_after (front ++ 32 ∷ rest)) (position_at 32 front rest h) ∙ ap Some (drop_front front 32 rest)
 
-last_field : (text : Text) → Lacks 32 text → field_of text ≡ text
+pub last_field : (text : Text) → Lacks 32 text → field_of text ≡ text
 last_field text h = ap (first_field text) (position_none 32 text h)
 
-no_rest : (text : Text) → Lacks 32 text → rest_of text ≡ None
+pub no_rest : (text : Text) → Lacks 32 text → rest_of text ≡ None
 no_rest text h = ap (fields_after text) (position_none 32 text h)
 
 some_text : (xs : List ℕ) → 0 < length xs → (length (encode_lower xs) == 0) ≡ false

@@ -11,4 +11,5 @@ pub mod SendsShown
 pub mod SendSpelling
 pub mod Printing
 pub mod TagPrinting
+pub mod ScriptSpelling
 pub mod Laws

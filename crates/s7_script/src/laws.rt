@@ -1,5 +1,6 @@
 //! Laws of area files, of printing and of scripts.
 ghost use Rattle.s7_script.specs.Laws.{AreasMigrate, EndsPrint, ScriptsKeepLinks};
+ghost use Rattle.s7_script.specs.ScriptSpelling.{ScriptsAreSpelled, ScriptsReadBack};
 ghost use Rattle.s7_script.specs.SendSpelling.{SendsReadBack};
 
 use s7_area::areas_join;
@@ -26,4 +27,15 @@ pub fn scripts_keep_links()
 /// file names is one for which a text can be written. So what was read, once written, is read again as the same blocks.
 pub fn sends_read_back()
     ensures { SendsReadBack }
+{}
+
+/// A law: the text that is written for jobs, a line for each, is read as these jobs.
+pub fn scripts_read_back()
+    ensures { ScriptsReadBack }
+{}
+
+/// A law: each job that a script without tags names is one for which a line can be written. So what was read, once
+/// written, is read again as the same jobs.
+pub fn scripts_are_spelled()
+    ensures { ScriptsAreSpelled }
 {}

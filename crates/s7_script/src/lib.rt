@@ -12,7 +12,10 @@ pub use areas::fault::{AreasFault, AreasKind};
 pub use areas::load::{LoadFault, load_areas};
 pub use areas::read::read_areas;
 pub use areas::write::write_areas;
-pub use laws::{areas_migrate, ends_print, scripts_keep_links, sends_read_back};
+pub use laws::{
+    areas_migrate, ends_print, scripts_are_spelled, scripts_keep_links, scripts_read_back,
+    sends_read_back,
+};
 pub use print::print_result;
 pub use scripts::reading::{read_script, read_tag_script};
 pub use scripts::script_fault::{ScriptFault, ScriptKind};
