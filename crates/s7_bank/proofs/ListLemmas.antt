@@ -68,6 +68,13 @@ pub length_more : {X : Type 0} (xs : List X) (x : X) (i : ℕ) → length xs ≡
 length_more [] x i e = omega (arith, e)
 length_more (z ∷ xs) x i e = let l = length_more xs x (length xs) refl in omega (arith, l, e)
 
+-- an element is the last one, or stood there before
+pub append_cases : {X : Type 0} (xs : List X) (x : X) (i : ℕ) (y : X) → slice_get (xs ++ x ∷ []) i ≡ Some y → ((length xs ≡ i) × (x ≡ y)) ⊎ (slice_get xs i ≡ Some y)
+append_cases [] x zero y e = inl (refl, same_some x y e)
+append_cases [] x (suc i) y e = none_isnt y e
+append_cases (z ∷ xs) x zero y e = inr e
+append_cases (z ∷ xs) x (suc i) y e = later (length xs) i (append_cases xs x i y e)
+
 -- ---- the first element is removed
 
 pub get_rest : {X : Type 0} (xs : List X) (i : ℕ) → slice_get (remove xs 0) i ≡ slice_get xs (suc i)

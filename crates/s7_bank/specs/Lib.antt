@@ -1,4 +1,6 @@
 pub mod Areas
+pub mod Dividing
+pub mod Books
 pub mod Seats
 pub mod Sharing
 pub mod Opening

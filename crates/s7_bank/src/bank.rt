@@ -26,7 +26,7 @@ pub fn bank_of_item(banks: u8, item: &Item) -> u8
 }
 
 /// The bank of an area of this kind and number.
-fn bank_of(banks: u8, area: u8, number: u16) -> u8
+pub(crate) fn bank_of(banks: u8, area: u8, number: u16) -> u8
     requires { 0 < banks }
     ensures bank { result ≡ bank_of banks area number }
     ensures within { result < banks }

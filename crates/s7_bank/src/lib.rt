@@ -4,6 +4,8 @@
 
 mod bank;
 mod banks;
+mod books;
+mod dividing;
 mod laws;
 mod opening;
 mod seat;
