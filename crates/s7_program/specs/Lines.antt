@@ -31,7 +31,7 @@ line_with link text entries =
 abbrev pub journal_line : ℕ → List ℕ
 journal_line journal = codes "journal " ++ (decimal journal ++ line_end)
 
-abbrev pub file_line : List ℕ → List ℕ
+unfoldable pub file_line : List ℕ → List ℕ
 file_line path = codes "file failed " ++ (path ++ line_end)
 
 abbrev pub memory_line : List ℕ

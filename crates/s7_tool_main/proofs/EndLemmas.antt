@@ -7,15 +7,16 @@ use Rattle.s7_outer.specs.Shown.{Shown}
 use Rattle.s7_script.specs.declared.scripts.script_list.ScriptLine.{ScriptLine}
 use Rattle.s7_symbol.specs.declared.tag.Tag.{Tag}
 use Rattle.s7_args.specs.Tool.{RunTold}
+use Rattle.s7_program.specs.Output.{Printed}
 use Rattle.s7_tool_main.specs.declared.ended.Ended.{Ended}
 use Rattle.s7_tool_main.specs.declared.ended.Ended.TheVariants as ended
 use Rattle.s7_tool_main.specs.declared.ended.RunEnd.{RunEnd}
-use Rattle.s7_tool_main.specs.declared.load.LoadFault.{LoadFault}
-use Rattle.s7_tool_main.specs.declared.load.LoadFault.TheVariants as fault
+use Rattle.s7_script.specs.declared.areas.load.LoadFault.{LoadFault}
+use Rattle.s7_script.specs.declared.areas.load.LoadFault.TheVariants as fault
 use Rattle.s7_tool_main.specs.Loading.{IsUnloaded, PathFails, ReadsScript, ReadsTags, RefusesScript, StopsAtTags}
 use Rattle.s7_tool_main.specs.Loading.{refusal_line, script_reader}
 use Rattle.s7_tool_main.specs.Ran.{LinesEnd, ReadsAll, RunEnds, RunsDialled}
-use Rattle.s7_tool_main.specs.Report.{Printed, TellsFault, script_line, tags_line}
+use Rattle.s7_tool_main.specs.Report.{TellsFault, script_line, tags_line}
 use Rattle.s7_tool_main.proofs.TagLemmas.{fails_tags, refuses_tags, refuses_text, with_read, with_tags}
 
 module _ {L : Type 0} (shows : L → Shown) (told : RunTold) (old new : FilesShown) (dial dial' : DialShown L)

@@ -6,8 +6,8 @@ use Rattle.std.proofs.lemmas.List.{drop_more, map-append, take-append-drop}
 use Rattle.s7_outer.specs.FilesShown.{FilesShown}
 use Rattle.s7_area.specs.Memory.{Memory}
 use Rattle.s7_script.specs.Loading.{HasFailed, LeavesFiles, Loads}
-use Rattle.s7_script.specs.declared.areas.load.LoadFault.{LoadFault as AreasFault}
-use Rattle.s7_script.specs.declared.areas.load.LoadFault.TheVariants as areas
+use Rattle.s7_script.specs.declared.areas.load.LoadFault.{LoadFault}
+use Rattle.s7_script.specs.declared.areas.load.LoadFault.TheVariants as fault
 use Rattle.s7_script.specs.Naming.{Named, path, block, faulty}
 use Rattle.s7_script.specs.declared.scripts.script_list.ScriptLine.{ScriptLine}
 use Rattle.s7_symbol.specs.declared.tag.Tag.{Tag}
@@ -30,13 +30,13 @@ keeps_failed (block number octets) old new failed h = absurd failed
 keeps_failed faulty old new failed h = absurd failed
 
 -- areas that were loaded, or not, leave the paths
-pub keeps_by_areas : (n : Named) (old new : FilesShown) (result : Result Memory AreasFault) → Loads n old new result
+pub keeps_by_areas : (n : Named) (old new : FilesShown) (result : Result Memory LoadFault) → Loads n old new result
     → KeepsPaths old new
 keeps_by_areas n old new (Ok m) h = keeps_same old new (h.unfailed (λ e. cc e))
-keeps_by_areas n old new (Err areas.Failed) h = keeps_failed n old new (h.failed refl) h.left
-keeps_by_areas n old new (Err areas.TooLong) h = keeps_same old new (h.unfailed (λ e. cc e))
-keeps_by_areas n old new (Err (areas.Line k)) h = keeps_same old new (h.unfailed (λ e. cc e))
-keeps_by_areas n old new (Err areas.Memory) h = keeps_same old new (h.unfailed (λ e. cc e))
+keeps_by_areas n old new (Err fault.Failed) h = keeps_failed n old new (h.failed refl) h.left
+keeps_by_areas n old new (Err fault.TooLong) h = keeps_same old new (h.unfailed (λ e. cc e))
+keeps_by_areas n old new (Err (fault.Line k)) h = keeps_same old new (h.unfailed (λ e. cc e))
+keeps_by_areas n old new (Err fault.Memory) h = keeps_same old new (h.unfailed (λ e. cc e))
 
 -- ---- one script after another
 

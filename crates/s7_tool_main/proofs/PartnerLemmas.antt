@@ -16,13 +16,14 @@ use Rattle.s7_partner_run.specs.Talking.{Post, IsFresh}
 use Rattle.s7_partner_run.specs.Alone.{Talked}
 use Rattle.s7_partner_run.proofs.AloneSides.{came_to}
 use Rattle.s7_args.specs.Tool.{PartnerTold}
+use Rattle.s7_program.specs.Output.{Printed}
 use Rattle.s7_tool_main.specs.declared.ended.Ended.{Ended}
 use Rattle.s7_tool_main.specs.declared.ended.Ended.TheVariants as ended
 use Rattle.s7_tool_main.specs.declared.ended.RunEnd.{RunEnd}
 use Rattle.s7_tool_main.specs.Loading.{PathFails, ReadsSends, RefusesSends}
 use Rattle.s7_tool_main.specs.Partners.{AloneEnds, BothEnd, ComesTo, EndsBy, FailsOne, PairTells, PartnerEnds, PartnersLack}
 use Rattle.s7_tool_main.specs.Partners.{RanPair, RanPartners, RefusesOne, TalkedOver, TalksAs, TalksDialled, partner_config}
-use Rattle.s7_tool_main.specs.Report.{Printed, PrintsText}
+use Rattle.s7_tool_main.specs.Report.{PrintsText}
 
 -- ---- two partners
 

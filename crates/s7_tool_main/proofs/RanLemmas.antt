@@ -17,22 +17,21 @@ use Rattle.s7_script.specs.Loading.{HasFailed, Loads, NamedGives, PathFailed}
 use Rattle.s7_script.specs.Naming.{Named, block_named, block_with, inline_parts, named_by}
 use Rattle.s7_script.specs.Naming.{naming}
 use Rattle.s7_script.specs.Printing.{IsPrintable}
-use Rattle.s7_script.specs.declared.areas.load.LoadFault.{LoadFault as AreasFault}
-use Rattle.s7_script.specs.declared.areas.load.LoadFault.TheVariants as areas
+use Rattle.s7_script.specs.declared.areas.load.LoadFault.{LoadFault}
+use Rattle.s7_script.specs.declared.areas.load.LoadFault.TheVariants as fault
 use Rattle.s7_script.specs.declared.scripts.script_list.ScriptLine.{ScriptLine}
 use Rattle.s7_symbol.specs.declared.tag.Tag.{Tag}
 use Rattle.s7_watched.specs.Watched.{RigsShowWatches}
 use Rattle.s7_args.specs.Tool.{RigTold}
+use Rattle.s7_program.specs.Output.{Printed}
 use Rattle.s7_tool_main.specs.Asked.{rig_config, turning_of}
 use Rattle.s7_tool_main.specs.declared.ended.Ended.{Ended}
 use Rattle.s7_tool_main.specs.declared.ended.Ended.TheVariants as ended
-use Rattle.s7_tool_main.specs.declared.load.LoadFault.{LoadFault}
-use Rattle.s7_tool_main.specs.declared.load.LoadFault.TheVariants as fault
 use Rattle.s7_tool_main.specs.Gen.{GenEnds, client_scripts, made_areas, made_config, made_turning}
 use Rattle.s7_tool_main.specs.GenText.{are_made_good, made_text}
 use Rattle.s7_tool_main.specs.Loading.{ReadsTags, ReadsWatch, StopsAtTags, StopsAtWatch, refusal_line, script_reader}
 use Rattle.s7_tool_main.specs.Loading.{watch_reader}
-use Rattle.s7_tool_main.specs.Report.{Printed, PrintsText, TellsFault, script_line, tags_line}
+use Rattle.s7_tool_main.specs.Report.{PrintsText, TellsFault, script_line, tags_line}
 use Rattle.s7_tool_main.specs.RigText.{ArePrintable, are_clients_good, rig_text}
 use Rattle.s7_tool_main.specs.Rigging.{ComesTo, FailsAfterTags, FailsOther, IsPathOf, RanJobs, RanRig, RefusesAfterTags}
 use Rattle.s7_tool_main.specs.Rigging.{RefusesAreas, RefusesOneScript, RefusesOther, RigEnds, areas_refusal_line}
@@ -79,14 +78,14 @@ word_failed : (word : List ℕ) (old new : FilesShown) → HasFailed (naming wor
     → IsPathOf (naming word) word × PathFailed word old.faults new.faults
 word_failed word old new h = failed_by word (inline_parts word) old new h
 
-refuses_areas : (named : Named) (why : AreasFault) (old new : FilesShown) (P : List ℕ → Type 0)
+refuses_areas : (named : Named) (why : LoadFault) (old new : FilesShown) (P : List ℕ → Type 0)
     → Loads named old new (Err why) → IsSomeAnd (areas_refusal_line why) P → RefusesAreas named old P
-refuses_areas named areas.Failed old new P h printed = absurd printed
-refuses_areas named areas.TooLong old new P h printed =
-    record { fault = areas.TooLong; line = _; refused = h.answers; line_is = refl; is_printed = printed }
-refuses_areas named (areas.Line k) old new P h printed =
-    record { fault = areas.Line k; line = _; refused = h.answers; line_is = refl; is_printed = printed }
-refuses_areas named areas.Memory old new P h printed = absurd printed
+refuses_areas named fault.Failed old new P h printed = absurd printed
+refuses_areas named fault.TooLong old new P h printed =
+    record { fault = fault.TooLong; line = _; refused = h.answers; line_is = refl; is_printed = printed }
+refuses_areas named (fault.Line k) old new P h printed =
+    record { fault = fault.Line k; line = _; refused = h.answers; line_is = refl; is_printed = printed }
+refuses_areas named fault.Memory old new P h printed = absurd printed
 
 -- ---- how it ended
 
@@ -139,8 +138,8 @@ module _ (told : RigTold) (old new : FilesShown) (out out' : OutShown) where
           (λ w. FailsOther known told old new (Printed out out')) watching h))
 
       -- the areas weren't loaded
-      pub rig_unopened : (f : AreasFault) (how : Ended) → Loads (naming told.areas) old new (Err f)
-          → TellsFault (areas_refusal_line f) (f ≡ areas.Failed) told.areas out out' how
+      pub rig_unopened : (f : LoadFault) (how : Ended) → Loads (naming told.areas) old new (Err f)
+          → TellsFault (areas_refusal_line f) (f ≡ fault.Failed) told.areas out out' how
           → RigEnds told old new out out' None how
       rig_unopened f ended.Refused h t =
           (refl, inr (refuses_other (inl (refuses_areas (naming told.areas) f old new (Printed out out') h t))))

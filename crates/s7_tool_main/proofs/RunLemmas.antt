@@ -12,8 +12,9 @@ use Rattle.s7_client.specs.declared.connection.Connection.{Connection}
 use Rattle.s7_client.specs.Polling.{config_of}
 use Rattle.s7_client.specs.Runs.{Between, JobRun, between_of, fresh}
 use Rattle.s7_script.specs.declared.scripts.script_list.ScriptLine.{ScriptLine}
+use Rattle.s7_program.specs.Output.{Gains}
 use Rattle.s7_tool_main.specs.declared.ended.Ended.{Ended}
-use Rattle.s7_tool_main.specs.Report.{Gains, line_text, report}
+use Rattle.s7_tool_main.specs.Report.{line_text, report}
 use Rattle.s7_tool_main.specs.Run.{RunsJobs, Place, DoesJob, DoesLines, DoesFirst, EndsEarly, DoesAll, Goes}
 use Rattle.s7_tool_main.specs.Run.{connect_line, first_place, job_in}
 

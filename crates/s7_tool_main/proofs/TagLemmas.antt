@@ -3,12 +3,13 @@ use Rattle.std.proofs.Common.{◌≡◌, ◌∙◌, ◌<◌, refl, sym, ap, arit
 use Rattle.std.specs.Prelude.{◌==◌, IsSomeAnd}
 use Rattle.s7_outer.specs.FilesShown.{FilesShown}
 use Rattle.s7_symbol.specs.declared.tag.Tag.{Tag}
-use Rattle.s7_tool_main.specs.declared.load.LoadFault.{LoadFault}
-use Rattle.s7_tool_main.specs.declared.load.LoadFault.TheVariants as fault
+use Rattle.s7_program.specs.Lines.{file_line}
+use Rattle.s7_script.specs.declared.areas.load.LoadFault.{LoadFault}
+use Rattle.s7_script.specs.declared.areas.load.LoadFault.TheVariants as fault
 use Rattle.s7_tool_main.specs.Loading.{FailsTags, IsRefusedFor, IsUnloaded, ReadsTags, ReadsTagsBy, ReadsText, Reader}
 use Rattle.s7_tool_main.specs.Loading.{RefusesTags, RefusesTagsBy, RefusesText, StopsAtTags, StopsAtTagsBy, numbered}
 use Rattle.s7_tool_main.specs.Loading.{refusal_line, some_tags, tag_reader, watch_reader}
-use Rattle.s7_tool_main.specs.Report.{file_line, tags_line}
+use Rattle.s7_tool_main.specs.Report.{tags_line}
 
 -- ---- readers
 

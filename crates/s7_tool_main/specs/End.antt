@@ -10,13 +10,14 @@ use Rattle.s7_rig.specs.declared.end.RigEnd.{RigEnd}
 use Rattle.s7_rig.specs.Rigs.{ToldWanting}
 use Rattle.s7_rig.specs.Shown.{end_told, first_results}
 use Rattle.s7_args.specs.Tool.{ToolTold, gen, partner, rig, run}
+use Rattle.s7_program.specs.Lines.{memory_line}
+use Rattle.s7_program.specs.Output.{Printed}
 use Rattle.s7_tool_main.specs.declared.ended.Ended.{Ended}
 use Rattle.s7_tool_main.specs.declared.ended.RunEnd.{RunEnd}
 use Rattle.s7_tool_main.specs.declared.ended.ToolEnd.{ToolEnd}
 use Rattle.s7_tool_main.specs.Gen.{RanGen, client_scripts, made_areas, made_config, made_turning}
 use Rattle.s7_tool_main.specs.Partners.{CallFailsFor, FailsOne, PartnersLack, RanPartners, RefusesOne}
 use Rattle.s7_tool_main.specs.Ran.{CallFails, FailsRun, RanScript, RefusesRun, RunLacksMemory}
-use Rattle.s7_tool_main.specs.Report.{Printed, memory_line}
 use Rattle.s7_tool_main.specs.Rigging.{FailsOneFile, RanRig, RefusesFile, RigWanting}
 
 -- ---- what was carried out

@@ -10,12 +10,14 @@ use Rattle.s7_rig.specs.declared.end.RigEnd.{RigEnd}
 use Rattle.s7_rig.specs.Rigs.{RigRan, Turning}
 use Rattle.s7_rig.specs.Scripts.{Script, goes_on}
 use Rattle.s7_rig.specs.Shown.{EndTold, end_told}
+use Rattle.s7_program.specs.Lines.{memory_line}
+use Rattle.s7_program.specs.Output.{Printed}
 use Rattle.s7_tool_main.specs.declared.ended.Ended.{Ended}
 use Rattle.s7_tool_main.specs.declared.ended.Ended.TheVariants as ended
 use Rattle.s7_tool_main.specs.Asked.{rig_config}
 use Rattle.s7_tool_main.specs.Drawn.{made_scripts}
 use Rattle.s7_tool_main.specs.GenText.{are_made_good, made_text}
-use Rattle.s7_tool_main.specs.Report.{Printed, PrintsText, memory_line}
+use Rattle.s7_tool_main.specs.Report.{PrintsText}
 
 -- ---- the areas
 

@@ -8,8 +8,7 @@ use Rattle.s7_area.specs.declared.key.AreaKey.{AreaKey}
 use Rattle.s7_area.specs.Memory.{Memory, area_octets}
 use Rattle.s7_dialogue.specs.declared.job.JobResult.{JobResult}
 use Rattle.s7_rig.specs.Shown.{ClientTold, EndTold}
-use Rattle.s7_tool_main.specs.Report.{line_end}
-use Rattle.s7_tool_main.specs.RigText.{journal_line}
+use Rattle.s7_program.specs.Lines.{journal_line, line_end}
 use Rattle.s7_tool_main.specs.Run.{is_good}
 
 -- ---- one client

@@ -7,17 +7,18 @@ use Rattle.s7_outer.specs.Files.{file_limit, IsCutFrom}
 use Rattle.s7_script.specs.Loading.{FailedOnce, PathFailed}
 use Rattle.s7_script.specs.Tagged.{script_by}
 use Rattle.s7_script.specs.Sends.{sends}
+use Rattle.s7_script.specs.declared.areas.load.LoadFault.{LoadFault}
+use Rattle.s7_script.specs.declared.areas.load.LoadFault.TheVariants as fault
 use Rattle.s7_script.specs.declared.scripts.script_fault.ScriptFault.{ScriptFault}
 use Rattle.s7_script.specs.declared.sends.send_list.SendLine.{SendLine}
 use Rattle.s7_script.specs.declared.scripts.script_list.ScriptLine.{ScriptLine}
 use Rattle.s7_symbol.specs.Tags.{tags}
 use Rattle.s7_symbol.specs.declared.fault.TagFault.{TagFault}
 use Rattle.s7_symbol.specs.declared.tag.Tag.{Tag}
-use Rattle.s7_tool_main.specs.declared.load.LoadFault.{LoadFault}
-use Rattle.s7_tool_main.specs.declared.load.LoadFault.TheVariants as fault
+use Rattle.s7_program.specs.Lines.{file_line}
 use Rattle.s7_tool_main.specs.declared.load.TextKind.{TextKind}
 use Rattle.s7_tool_main.specs.declared.load.TextKind.TheVariants as kind
-use Rattle.s7_tool_main.specs.Report.{file_line, script_line, tags_line, too_long_line}
+use Rattle.s7_tool_main.specs.Report.{areas_line, script_line, tags_line, too_long_line}
 
 -- NO FILE IS CHANGED, and at most one call on a path failed
 pub record KeepsPaths (old new : FilesShown) : Type 0 where
@@ -118,6 +119,7 @@ fault_of file.Memory = fault.Memory
 abbrev pub faulty_line : TextKind → ℕ → List ℕ
 faulty_line kind.Tags = tags_line
 faulty_line kind.Script = script_line
+faulty_line kind.Areas = areas_line
 
 -- the line for a text that can't be read; there is none for a file that failed, nor if memory ran out
 abbrev pub refusal_line : (ℕ → List ℕ) → LoadFault → Option (List ℕ)

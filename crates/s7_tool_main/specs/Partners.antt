@@ -17,11 +17,13 @@ use Rattle.s7_partner_run.specs.Talking.{Post, IsFresh, is_closed}
 use Rattle.s7_partner_run.specs.Pairs.{EndTold, PairRan}
 use Rattle.s7_partner_run.specs.Alone.{EndsClosed, IsSideOver, Talked}
 use Rattle.s7_args.specs.Tool.{PartnerTold}
+use Rattle.s7_program.specs.Lines.{memory_line}
+use Rattle.s7_program.specs.Output.{Gains, Printed}
 use Rattle.s7_tool_main.specs.declared.ended.Ended.{Ended}
 use Rattle.s7_tool_main.specs.declared.ended.Ended.TheVariants as ended
 use Rattle.s7_tool_main.specs.declared.ended.RunEnd.{RunEnd}
 use Rattle.s7_tool_main.specs.Loading.{PathFails, ReadsSends, RefusesSends}
-use Rattle.s7_tool_main.specs.Report.{Gains, Printed, PrintsText, dial_line, memory_line}
+use Rattle.s7_tool_main.specs.Report.{PrintsText, dial_line}
 
 -- the configuration of partners: programming devices at rack 0 and slot 2, with a PDU of 480 and one telegram at a time
 abbrev pub partner_config : Config

@@ -9,12 +9,14 @@ use Rattle.s7_dialogue.specs.declared.config.Config.{Config}
 use Rattle.s7_client.specs.Runs.{Between}
 use Rattle.s7_script.specs.declared.scripts.script_list.ScriptLine.{ScriptLine}
 use Rattle.s7_args.specs.Tool.{RunTold}
+use Rattle.s7_program.specs.Lines.{memory_line}
+use Rattle.s7_program.specs.Output.{Printed}
 use Rattle.s7_tool_main.specs.declared.ended.Ended.{Ended}
 use Rattle.s7_tool_main.specs.declared.ended.Ended.TheVariants as ended
 use Rattle.s7_tool_main.specs.declared.ended.RunEnd.{RunEnd}
 use Rattle.s7_tool_main.specs.Asked.{config_by}
 use Rattle.s7_tool_main.specs.Loading.{FailsTags, PathFails, ReadsScript, ReadsTags, RefusesScript, RefusesTags}
-use Rattle.s7_tool_main.specs.Report.{Printed, dial_line, memory_line}
+use Rattle.s7_tool_main.specs.Report.{dial_line}
 use Rattle.s7_tool_main.specs.Run.{Goes, first_place}
 
 -- ---- what was run

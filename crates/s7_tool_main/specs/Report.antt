@@ -1,23 +1,18 @@
 -- The text that is printed.
-use Rattle.std.specs.Prelude.{◌≡◌, ◌⊎◌, ℕ, Bool, true, false, List, [], ◌∷◌, ◌++◌, codes, Option, None, Some, IsSomeAnd}
+use Rattle.std.specs.Prelude.{◌≡◌, ℕ, Bool, true, false, List, [], ◌∷◌, ◌++◌, codes, Option, None, Some, IsSomeAnd}
 use Rattle.std.specs.Fmt.{decimal}
-use Rattle.std.specs.Io.KnownBytes.{append_known}
-use Rattle.s7_outer.specs.Count.{Rose}
-use Rattle.s7_outer.specs.Out.{AppendsPrefix}
 use Rattle.s7_outer.specs.OutShown.{OutShown}
 use Rattle.s7_dialogue.specs.declared.job.JobResult.{JobResult}
 use Rattle.s7_script.specs.Printing.{print}
 use Rattle.s7_script.specs.TagPrinting.{print_tag}
 use Rattle.s7_script.specs.declared.scripts.script_list.ScriptLine.{ScriptLine}
 use Rattle.s7_symbol.specs.declared.kind.TagKind.{TagKind}
+use Rattle.s7_program.specs.Lines.{file_line, line_end, memory_line}
+use Rattle.s7_program.specs.Output.{BreaksOff, Gains, Printed}
 use Rattle.s7_tool_main.specs.declared.ended.Ended.{Ended}
 use Rattle.s7_tool_main.specs.declared.ended.Ended.TheVariants as ended
 
 -- ---- lines
-
--- a line ends with LF
-abbrev pub line_end : List ℕ
-line_end = 10 ∷ []
 
 -- the line for the result of a job, by the number of its line and the type of the tag that the line names
 abbrev pub line_by : ℕ → Option TagKind → JobResult → List ℕ
@@ -49,29 +44,10 @@ tags_line n = codes "tags line " ++ (decimal n ++ line_end)
 abbrev pub too_long_line : List ℕ
 too_long_line = codes "file too long" ++ line_end
 
-unfoldable pub file_line : List ℕ → List ℕ
-file_line path = codes "file failed " ++ (path ++ line_end)
-
 abbrev pub dial_line : List ℕ
 dial_line = codes "dial failed" ++ line_end
 
-abbrev pub memory_line : List ℕ
-memory_line = codes "memory" ++ line_end
-
 -- ---- the output
-
--- an output gained this text
-abbrev pub Gains : OutShown → OutShown → List ℕ → Type 0
-Gains old new text = new.text ≡ append_known old.text text
-
--- an output failed, and gained a prefix of this text
-pub record BreaksOff (old new : OutShown) (text : List ℕ) : Type 0 where
-  pub front : AppendsPrefix old.text new.text text
-  pub failed : Rose old.faults new.faults
-
--- A LINE WAS PRINTED, or a prefix of it if the output failed
-abbrev pub Printed : OutShown → OutShown → List ℕ → Type 0
-Printed old new line = Gains old new line ⊎ BreaksOff old new line
 
 -- THE TEXT OF WHAT WAS DONE WAS PRINTED, or a prefix of it if the output failed; how the command ended, by whether all
 -- went well

@@ -13,8 +13,9 @@ use Rattle.s7_symbol.specs.declared.tag.Tag.{Tag}
 use Rattle.s7_watch.specs.Lines.{nothing_seen, result_lines}
 use Rattle.s7_watch.specs.Looks.{looks}
 use Rattle.s7_args.specs.Tool.{client_count}
+use Rattle.s7_program.specs.Lines.{journal_line, line_end}
 use Rattle.s7_tool_main.specs.declared.head.Head.{Head}
-use Rattle.s7_tool_main.specs.Report.{line_by, line_end}
+use Rattle.s7_tool_main.specs.Report.{line_by}
 use Rattle.s7_tool_main.specs.Run.{connect_line, is_good}
 
 -- what a printed line needs of the line of a script: its number, and the type of the tag that it names
@@ -84,9 +85,6 @@ lines_of tags rounds (Some c) =
 abbrev pub watch_text : Option (List Tag) → ℕ → Option ClientTold → List ℕ
 watch_text None rounds watcher = []
 watch_text (Some tags) rounds watcher = lines_of tags rounds watcher
-
-abbrev pub journal_line : ℕ → List ℕ
-journal_line count = codes "journal " ++ (decimal count ++ line_end)
 
 abbrev pub text_by : List (List Head) → List ℕ → EndTold → List ℕ
 text_by heads watched end =

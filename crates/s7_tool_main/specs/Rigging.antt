@@ -12,16 +12,18 @@ use Rattle.s7_rig.specs.Scripts.{Script, goes_on}
 use Rattle.s7_script.specs.Naming.{Named, naming, path, block, faulty}
 use Rattle.s7_script.specs.Loading.{NamedGives}
 use Rattle.s7_script.specs.declared.areas.load.LoadFault.{LoadFault}
-use Rattle.s7_script.specs.declared.areas.load.LoadFault.TheVariants as fault
 use Rattle.s7_script.specs.declared.scripts.script_list.ScriptLine.{ScriptLine}
 use Rattle.s7_symbol.specs.declared.tag.Tag.{Tag}
 use Rattle.s7_watched.specs.Watched.{watch_script}
 use Rattle.s7_args.specs.Tool.{RigTold}
+use Rattle.s7_program.specs.Lines.{memory_line}
+use Rattle.s7_program.specs.Output.{Printed}
 use Rattle.s7_tool_main.specs.declared.ended.Ended.{Ended}
 use Rattle.s7_tool_main.specs.declared.ended.Ended.TheVariants as ended
 use Rattle.s7_tool_main.specs.Asked.{rig_config, turning_of}
 use Rattle.s7_tool_main.specs.Loading.{FailsTags, PathFails, ReadsTags, ReadsWatch, RefusesScript, RefusesTags, RefusesWatch}
-use Rattle.s7_tool_main.specs.Report.{Printed, PrintsText, areas_line, memory_line, too_long_line}
+use Rattle.s7_tool_main.specs.Loading.{refusal_line}
+use Rattle.s7_tool_main.specs.Report.{PrintsText, areas_line}
 use Rattle.s7_tool_main.specs.RigText.{are_clients_good, rig_text}
 use Rattle.s7_tool_main.specs.Run.{jobs_of}
 use Rattle.s7_tool_main.specs.Scripts.{ReadsBefore, ReadsScripts}
@@ -31,10 +33,7 @@ use Rattle.s7_tool_main.specs.Watching.{ShowsWatch}
 
 -- the line for areas that can't be read; there is none for a file that failed, nor if memory ran out
 abbrev pub areas_refusal_line : LoadFault → Option (List ℕ)
-areas_refusal_line (fault.Line n) = Some (areas_line n)
-areas_refusal_line fault.TooLong = Some too_long_line
-areas_refusal_line fault.Failed = None
-areas_refusal_line fault.Memory = None
+areas_refusal_line why = refusal_line areas_line why
 
 -- the areas were refused for their first faulty line or their length, and the line for this was printed
 pub record RefusesAreas (named : Named) (files : FilesShown) (printed : List ℕ → Type 0) : Type 0 where

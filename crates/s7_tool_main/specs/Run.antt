@@ -13,10 +13,12 @@ use Rattle.s7_dialogue.specs.Codes.{no_fault}
 use Rattle.s7_client.specs.Completions.{connection_of}
 use Rattle.s7_client.specs.Runs.{Between, JobRun, between_of, fresh}
 use Rattle.s7_script.specs.declared.scripts.script_list.ScriptLine.{ScriptLine}
+use Rattle.s7_program.specs.Lines.{memory_line}
+use Rattle.s7_program.specs.Output.{Gains, Printed}
 use Rattle.s7_tool_main.specs.declared.ended.Ended.{Ended}
 use Rattle.s7_tool_main.specs.declared.ended.Ended.TheVariants as ended
 use Rattle.s7_tool_main.specs.declared.scripts.jobs.ScriptRun.{ScriptRun}
-use Rattle.s7_tool_main.specs.Report.{Gains, Printed, line_text, memory_line, report}
+use Rattle.s7_tool_main.specs.Report.{line_text, report}
 
 -- ---- jobs
 

@@ -3,7 +3,7 @@ use Rattle.std.specs.Prelude.{◌≡◌, ℕ, List, [], ◌∷◌, ◌++◌, Opt
 use Rattle.s7_outer.specs.FilesShown.{FilesShown}
 use Rattle.s7_script.specs.declared.scripts.script_list.ScriptLine.{ScriptLine}
 use Rattle.s7_symbol.specs.declared.tag.Tag.{Tag}
-use Rattle.s7_tool_main.specs.declared.load.LoadFault.{LoadFault}
+use Rattle.s7_script.specs.declared.areas.load.LoadFault.{LoadFault}
 use Rattle.s7_tool_main.specs.Loading.{IsUnloaded, ReadsScript, script_reader}
 
 -- the scripts under these paths, whose lines may name these tags, were read in order

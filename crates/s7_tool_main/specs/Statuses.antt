@@ -1,39 +1,40 @@
 -- The exit statuses of the program, this profile's own.
 use Rattle.std.specs.Prelude.{ℕ}
+use Rattle.s7_program.specs.Statuses as shared
 use Rattle.s7_tool_main.specs.declared.ended.Ended.{Ended}
 use Rattle.s7_tool_main.specs.declared.ended.Ended.TheVariants as ended
 
 -- all went well
 abbrev pub done : ℕ
-done = 0
+done = shared.done
 
 -- the words are no command
 abbrev pub usage : ℕ
-usage = 1
+usage = shared.usage
 
 -- a tag file, a script, a sends file or the areas can't be read
 abbrev pub script : ℕ
-script = 2
+script = shared.refused
 
 -- a file failed
 abbrev pub file : ℕ
-file = 3
+file = shared.file
 
 -- the dial failed
 abbrev pub dial : ℕ
-dial = 4
+dial = shared.unreached
 
 -- the output failed
 abbrev pub output : ℕ
-output = 5
+output = shared.output
 
 -- everything was done, and a result's code isn't 0, a client isn't finished, or a block wasn't acknowledged
 abbrev pub jobs : ℕ
-jobs = 6
+jobs = shared.jobs
 
 -- memory ran out
 abbrev pub memory : ℕ
-memory = 9
+memory = shared.memory
 
 -- the status for how the command ended
 abbrev pub status_of : Ended → ℕ

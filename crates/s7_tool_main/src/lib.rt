@@ -13,6 +13,5 @@ mod tool;
 pub use ended::{RunEnd, ToolEnd};
 pub use head::Head;
 pub use made::made_scripts::made_scripts;
-pub use output::print_line;
 pub use rigs::rig_report::{are_good, rig_text};
-pub use tool::{MEMORY, tool_main};
+pub use tool::tool_main;

@@ -10,7 +10,9 @@ ghost use Rattle.s7_tool_main.specs.Loading.{sends_reader, tag_reader, watch_rea
 ghost use Rattle.s7_tool_main.specs.Scripts.{AddsScript, ReadsScripts, StopsAt};
 
 use s7_outer::{FileFault, Files};
-use s7_script::{Script, ScriptFault, ScriptKind, Sends, read_script, read_sends, read_tag_script};
+use s7_script::{
+    LoadFault, Script, ScriptFault, ScriptKind, Sends, read_script, read_sends, read_tag_script,
+};
 use s7_symbol::{TagFaultKind, Tags, read_tags};
 use std::alloc::Global;
 
@@ -21,19 +23,8 @@ pub(crate) enum TextKind {
     Tags,
     /// A script or a sends file.
     Script,
-}
-
-/// Why a tag file, a script or a sends file wasn't loaded.
-#[derive(Clone, Copy, Debug, PartialEq, Eq)]
-pub enum LoadFault {
-    /// The file doesn't exist, or couldn't be read.
-    Failed,
-    /// The file has more than 67,108,864 octets.
-    TooLong,
-    /// The number of the first faulty line of the text, from 1 on.
-    Line(u32),
-    /// An allocation failed.
-    Memory,
+    /// An area file, or areas that a word gives.
+    Areas,
 }
 
 /// The path of a file that wasn't loaded, and why.

@@ -1,14 +1,15 @@
 //! Printing texts and the lines for failures.
 ghost use Rattle.std.specs.Prelude.{◌≡◌};
 ghost use Rattle.s7_tool_main.specs.Loading.{faulty_line, refusal_line};
-ghost use Rattle.s7_tool_main.specs.Report.{Printed, PrintsText, TellsFault};
+ghost use Rattle.s7_tool_main.specs.Report.{PrintsText, TellsFault};
 ghost use Rattle.s7_tool_main.specs.Rigging.{areas_refusal_line};
 
 use crate::ended::Ended;
-use crate::load::{LoadFault, TextKind};
-use crate::scripts::report::{areas_line, faulty_line, file_line};
+use crate::load::TextKind;
+use crate::scripts::report::faulty_line;
 use s7_outer::Out;
-use s7_script::LoadFault as AreasFault;
+use s7_program::{file_line, print_as};
+use s7_script::LoadFault;
 use std::alloc::Global;
 
 /// Prints the text of what was done. Returns how that ended, given whether all went well.
@@ -47,22 +48,14 @@ pub(crate) fn print_refusal<O: Out>(
 /// Prints why the areas weren't loaded, and returns how the command ends.
 pub(crate) fn print_areas_refusal<O: Out>(
     alloc: Global,
-    fault: AreasFault,
+    fault: LoadFault,
     path: &str,
     out: &mut O,
 ) -> Ended
-    ensures { TellsFault (areas_refusal_line fault) (fault ≡ AreasFault.Failed) path.now
+    ensures { TellsFault (areas_refusal_line fault) (fault ≡ LoadFault.Failed) path.now
         (O.shows out.old) (O.shows out.new) result }
 {
-    match fault {
-        AreasFault::Failed => print_failed(alloc, path, out),
-        AreasFault::TooLong => print_as(Ended::Refused, b"file too long\n", out),
-        AreasFault::Line(number) => match areas_line(alloc, number) {
-            Ok(text) => print_as(Ended::Refused, text.as_bytes(), out),
-            Err(_) => print_as(Ended::Memory, b"memory\n", out),
-        },
-        AreasFault::Memory => print_as(Ended::Memory, b"memory\n", out),
-    }
+    print_refusal(alloc, TextKind::Areas, fault, path, out)
 }
 
 /// Prints that a file failed, and returns how the command ends.
@@ -72,24 +65,5 @@ fn print_failed<O: Out>(alloc: Global, path: &str, out: &mut O) -> Ended
     match file_line(alloc, path) {
         Ok(text) => print_as(Ended::File, text.as_bytes(), out),
         Err(_) => print_as(Ended::Memory, b"memory\n", out),
-    }
-}
-
-/// Prints this line, and returns `ended`.
-pub(crate) fn print_as<O: Out>(ended: Ended, line: &[u8], out: &mut O) -> Ended
-    ensures ended { result ≡ ended }
-    ensures line { Printed (O.shows out.old) (O.shows out.new) line.now }
-{
-    print_line(line, out);
-    ended
-}
-
-/// Prints a line. A failure of the output is ignored.
-pub fn print_line<O: Out>(line: &[u8], out: &mut O)
-    ensures { Printed (O.shows out.old) (O.shows out.new) line.now }
-{
-    match out.put(line) {
-        Ok(()) => {}
-        Err(_) => {}
     }
 }

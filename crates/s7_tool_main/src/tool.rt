@@ -3,49 +3,25 @@ ghost use Rattle.std.specs.Prelude.{◌≡◌, ◌≢◌, ◌⊎◌, IsNone, IsS
 ghost use Rattle.s7_client.specs.Completions.{told_of_results};
 ghost use Rattle.s7_outer.specs.Count.{Rose, RoseExactly};
 ghost use Rattle.s7_outer.specs.Dial.{NoHostFell};
+ghost use Rattle.s7_program.specs.Output.{Printed};
 ghost use Rattle.s7_tool_main.specs.Asked.{command_of};
 ghost use Rattle.s7_tool_main.specs.End.{CarriesOut, DialFails, FileFails, IsUnrun, LacksMemory, LeavesOnly};
 ghost use Rattle.s7_tool_main.specs.End.{HeardWanting, ReadsNone, Refuses, heard};
 ghost use Rattle.s7_tool_main.specs.Loading.{KeepsPaths};
-ghost use Rattle.s7_tool_main.specs.Report.{Printed, usage_line};
+ghost use Rattle.s7_tool_main.specs.Report.{usage_line};
 ghost use Rattle.s7_tool_main.specs.Statuses as status;
 
 pub use crate::ended::RunEnd;
 use crate::ended::{Ended, ToolEnd};
 use crate::made::gen_run::run_gen;
-use crate::output::print_line;
 use crate::rigs::rigging::run_rigging;
 use crate::scripts::partner_run::run_partner;
 use crate::scripts::script_run::run_script;
 use s7_args::{ToolWords, read_tool_words};
 use s7_client::Completion;
 use s7_outer::{Dial, Files, Link, Out};
+use s7_program::{DONE, FILE, JOBS, MEMORY, OUTPUT, REFUSED, UNREACHED, USAGE, print_line};
 use std::alloc::Global;
-
-/// The status if all went well.
-pub const DONE: u8 = 0;
-
-/// The status if the words are no command.
-pub const USAGE: u8 = 1;
-
-/// The status if a tag file, a script, a sends file or the areas can't be read.
-pub const SCRIPT: u8 = 2;
-
-/// The status if a file failed.
-pub const FILE: u8 = 3;
-
-/// The status if the dial failed.
-pub const DIAL: u8 = 4;
-
-/// The status if the output failed.
-pub const OUTPUT: u8 = 5;
-
-/// The status if everything was done, and a result's code isn't 0, a client of a rig isn't finished, or a block of a
-/// partner wasn't acknowledged.
-pub const JOBS: u8 = 6;
-
-/// The status if memory ran out.
-pub const MEMORY: u8 = 9;
 
 /// Parses the words, and carries out their command.
 ///
@@ -213,9 +189,9 @@ fn status_of(ended: Ended) -> u8
 {
     match ended {
         Ended::Done => DONE,
-        Ended::Refused => SCRIPT,
+        Ended::Refused => REFUSED,
         Ended::File => FILE,
-        Ended::Dial => DIAL,
+        Ended::Dial => UNREACHED,
         Ended::Output => OUTPUT,
         Ended::Jobs => JOBS,
         Ended::Memory => MEMORY,

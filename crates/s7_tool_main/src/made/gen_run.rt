@@ -13,10 +13,11 @@ use crate::ended::Ended;
 use crate::made::made_areas::made_areas;
 use crate::made::made_report::{are_made_good, made_text};
 use crate::made::made_scripts::made_scripts;
-use crate::output::{print_as, print_text};
+use crate::output::print_text;
 use crate::rigs::rigging::{Rigged, rig_config};
 use s7_client::{Completion, Job};
 use s7_outer::{Memory, Out};
+use s7_program::print_as;
 use s7_rig::{ClientScript, RigEnd, Schedule, run_rig};
 use std::alloc::{AllocError, Global};
 

@@ -9,11 +9,11 @@ ghost use Rattle.s7_tool_main.specs.GenText.{are_made_good, client_tally, counte
 ghost use Rattle.s7_tool_main.specs.GenText.{octet_sum, octets_in, sum_at, sum_line, tally_line};
 
 use crate::made::made_areas::{FLAGS_KEY, block_key};
-use crate::rigs::rig_report::journal_line;
 use crate::scripts::jobs::{all_good, is_good};
 use s7_area::{AreaKey, Areas};
 use s7_client::JobResult;
 use s7_outer::Memory;
+use s7_program::journal_line;
 use s7_rig::{RigClient, RigEnd};
 use std::alloc::{AllocError, Global};
 

@@ -4,14 +4,16 @@ ghost use Rattle.std.specs.Prelude.{length, map, string_bytes, if◌then◌else�
 ghost use Rattle.std.specs.List.{list_all};
 ghost use Rattle.s7_rig.specs.Shown.{client_told, end_told};
 ghost use Rattle.s7_script.specs.Printing.{IsPrintable};
+ghost use Rattle.s7_program.specs.Lines.{journal_line};
 ghost use Rattle.s7_tool_main.specs.Report.{line_by};
 ghost use Rattle.s7_tool_main.specs.RigText.{ArePrintable, client_line, client_text, clients_text, results_text, text_by};
-ghost use Rattle.s7_tool_main.specs.RigText.{are_good_by, is_client_good, is_finished, journal_line, unfinished_line};
+ghost use Rattle.s7_tool_main.specs.RigText.{are_good_by, is_client_good, is_finished, unfinished_line};
 
 use crate::head::Head;
 use crate::scripts::jobs::all_good;
 use s7_client::JobResult;
 use s7_outer::Memory;
+use s7_program::journal_line;
 use s7_rig::{RigClient, RigEnd};
 use std::alloc::{AllocError, Global};
 
@@ -118,13 +120,6 @@ pub(crate) fn unfinished_line(alloc: Global, link: u32) -> Result<String, AllocE
     ensures { IfOk result (λ text. string_bytes text ≡ unfinished_line link) }
 {
     format!(in alloc; "client {link} unfinished\n")
-}
-
-/// The line of the journal's length.
-pub(crate) fn journal_line(alloc: Global, entries: u64) -> Result<String, AllocError>
-    ensures { IfOk result (λ text. string_bytes text ≡ journal_line entries) }
-{
-    format!(in alloc; "journal {entries}\n")
 }
 
 /// Whether there are this many clients, and each of the first ones, whose lines have these heads, is finished, with code 0

@@ -11,7 +11,8 @@ ghost use Rattle.s7_client.specs.Polling.{job_of, config_of};
 ghost use Rattle.s7_client.specs.Runs.{JobRun, between_of};
 ghost use Rattle.s7_rig.specs.Tells.{Tells};
 ghost use Rattle.s7_script.specs.Printing.{IsPrintable};
-ghost use Rattle.s7_tool_main.specs.Report.{Gains, line_by};
+ghost use Rattle.s7_program.specs.Output.{Gains};
+ghost use Rattle.s7_tool_main.specs.Report.{line_by};
 ghost use Rattle.s7_tool_main.specs.Run.{PrintsFront, connect_line, is_good};
 
 use crate::head::Head;

@@ -12,12 +12,13 @@ ghost use Rattle.s7_tool_main.specs.Partners.{partner_config};
 
 use crate::ended::{Ended, RunEnd};
 use crate::load::{TextKind, load_sends};
-use crate::output::{print_as, print_refusal, print_text};
+use crate::output::{print_refusal, print_text};
 use s7_args::PartnerWords;
 use s7_client::Config;
 use s7_outer::{Dial, Dialled, Files, Link, Memory, Out};
 use s7_partner::Role;
 use s7_partner_run::{TalkEnd, Talker, pair_text, run_pair, talk};
+use s7_program::print_as;
 use s7_script::Sends;
 use std::alloc::Global;
 

@@ -1,7 +1,6 @@
 //! The lines for files that weren't loaded.
 ghost use Rattle.std.specs.Prelude.{◌≡◌, IfOk, string_bytes};
 ghost use Rattle.s7_tool_main.specs.Loading.{faulty_line};
-ghost use Rattle.s7_tool_main.specs.Report.{areas_line, file_line};
 
 use crate::load::TextKind;
 use std::alloc::{AllocError, Global};
@@ -13,19 +12,6 @@ pub(crate) fn faulty_line(alloc: Global, kind: TextKind, number: u32) -> Result<
     match kind {
         TextKind::Tags => format!(in alloc; "tags line {number}\n"),
         TextKind::Script => format!(in alloc; "script line {number}\n"),
+        TextKind::Areas => format!(in alloc; "areas line {number}\n"),
     }
-}
-
-/// The line for an area file whose line of this number is faulty.
-pub fn areas_line(alloc: Global, number: u32) -> Result<String, AllocError>
-    ensures { IfOk result (λ text. string_bytes text ≡ areas_line number) }
-{
-    format!(in alloc; "areas line {number}\n")
-}
-
-/// The line for a file that failed.
-pub fn file_line(alloc: Global, path: &str) -> Result<String, AllocError>
-    ensures { IfOk result (λ text. string_bytes text ≡ file_line path.now) }
-{
-    format!(in alloc; "file failed {path}\n")
 }

@@ -18,11 +18,12 @@ ghost use Rattle.s7_tool_main.specs.Run.{Goes, is_good, place};
 
 use crate::ended::{Ended, RunEnd};
 use crate::load::{TextKind, load_script, load_tags};
-use crate::output::{print_as, print_refusal};
+use crate::output::print_refusal;
 use crate::scripts::jobs::{ScriptRun, Stop, all_good};
 use s7_args::RunWords;
 use s7_client::{Client, Completion, Config, JobResult};
 use s7_outer::{Dial, Dialled, Files, Link, Out};
+use s7_program::print_as;
 use s7_script::ScriptLine;
 use std::alloc::{AllocError, Global};
 

@@ -1,6 +1,7 @@
 use Rattle.std.proofs.Common.{OnOk, ap, subst}
+use Rattle.s7_program.specs.Output.{Gains}
 use Rattle.s7_tool_main.specs.declared.head.Head.{Head}
-use Rattle.s7_tool_main.specs.Report.{Gains, line_by}
+use Rattle.s7_tool_main.specs.Report.{line_by}
 use Rattle.s7_tool_main.specs.Run.{PrintsFront, PrintsNothing}
 use Rattle.s7_tool_main.proofs.RunLemmas.{does_one, early_at, early_before, on_ok, same_place}
 use Rattle.s7_tool_main.proofs.ToldLemmas.{tells_kept, tells_result}
