@@ -57,7 +57,7 @@ near_alone w item same =
     let area = eqb-true w.near.area item.area (and_parts (w.near.area == item.area) _ same).0 in
     ap is_numbered (sym area) ∙ octets_alone w.near (and_parts (has_octets w.near) (has_octets w.far) w.octets).0
 
-far_alone : (w : Window) → is_numbered w.far.area ≡ false
+pub far_alone : (w : Window) → is_numbered w.far.area ≡ false
 far_alone w = octets_alone w.far (and_parts (has_octets w.near) (has_octets w.far) w.octets).1
 
 -- only data blocks have numbers
@@ -117,11 +117,11 @@ octets_some item fits some =
     count_some n h = grind (arith, nat_tests)
 
 -- the place ends within so many octets, and has some
-record Ends (item : Item) (len : ℕ) : Type 0 where
-  some : not (item.count == 0) ≡ true
-  ends : start_of item + octet_count item ≤ len
+pub record Ends (item : Item) (len : ℕ) : Type 0 where
+  pub some : not (item.count == 0) ≡ true
+  pub ends : start_of item + octet_count item ≤ len
 
-ends : (item : Item) (len : ℕ) → is_inside item len ≡ true → Ends item len
+pub ends : (item : Item) (len : ℕ) → is_inside item len ≡ true → Ends item len
 ends item len inside =
     let both = and_parts (not (item.count == 0)) (nat_le (start_of item + octet_count item) len) inside in
     record { some = both.0; ends = leb-true (start_of item + octet_count item) len both.1 }
@@ -147,11 +147,21 @@ lies w item same fits inside =
       address = omega (arith, octet, within);
     }
 
+-- the far item is the item moved by the window that is found
+pub far_moved : (windows : List Window) (item : Item) → near_code windows item ≡ good
+    → (w : Window) × (window_of windows (key_of item) ≡ Some w) × (far_item windows item ≡ moved w item)
+    × LiesIn w item (moved w item)
+far_moved windows item code =
+    let is = good_is windows item code in (
+      is.w,
+      is.found,
+      ap (λ (o : Option Window). moved_by o item) is.found,
+      lies is.w item (found_near windows (key_of item) is.w is.found) is.fits is.inside,
+    )
+
 pub far_lies : FarItemsLie
 far_lies windows item code =
-    let is = good_is windows item code in
-    let far : far_item windows item ≡ moved is.w item = ap (λ (o : Option Window). moved_by o item) is.found in
-    (is.w, is.found, subst (LiesIn is.w item) (sym far) (lies is.w item (found_near windows (key_of item) is.w is.found) is.fits is.inside))
+    let is = far_moved windows item code in (is.0, is.1, subst (LiesIn is.0 item) (sym is.2) is.3)
 
 pub far_address : (windows : List Window) (item : Item) → near_code windows item ≡ good → (far_item windows item).address < 2 ^ 24
 far_address windows item code = (far_lies windows item code).2.address

@@ -5,6 +5,7 @@ pub mod SpellingLemmas
 pub mod NearLemmas
 pub mod FarLemmas
 pub mod TravelLemmas
+pub mod CheckLemmas
 pub mod ReplyLemmas
 pub mod EnoughLemmas
 pub mod ErrorLemmas

@@ -20,6 +20,9 @@ same_count : (w : Option Window) (item : Item) → octet_count (moved_by w item)
 same_count None item = refl
 same_count (Some w) item = refl
 
+pub far_octets_same : (ws : List Window) (item : Item) → octet_count (far_item ws item) ≡ octet_count item
+far_octets_same ws item = same_count (window_of ws (key_of item)) item
+
 pub far_count : (ws : List Window) (item : Item) (code : ℕ) → count_read (far_item ws item) code ≡ count_read item code
 far_count ws item code = ap (λ n. cond (eqb code 255) n 0) (same_count (window_of ws (key_of item)) item)
 

@@ -4,7 +4,7 @@ use Rattle.s7_outer.specs.Count.{RoseExactly}
 use Rattle.s7_outer.specs.Shown.{Shown}
 use Rattle.s7_plant.specs.Replies.{said_of}
 use Rattle.s7_plant.specs.declared.request.Request.{Request}
-use Rattle.s7_dialogue.specs.Codes.{link_ended}
+use Rattle.s7_dialogue.specs.Codes.{link_ended, timed_out}
 use Rattle.s7_dialogue.specs.declared.job.Job.{Job}
 use Rattle.s7_relay.specs.Errors.{is_failure}
 use Rattle.s7_relay.specs.Far.{Does, FailsToConnect, FailsToDial, FarModel, FarServer, Lacks, Reaches, far_faults, granted_in, is_connected}
@@ -61,6 +61,14 @@ is_ended passage.Undialled = false
 is_ended (passage.Unconnected connect) = connect.code == link_ended
 is_ended (passage.Unpacked connect) = false
 is_ended (passage.Asked connect told) = told.code == link_ended
+
+-- whether the far server didn't answer in as many polls as allowed
+abbrev pub is_late : Passage → Bool
+is_late passage.Near = false
+is_late passage.Undialled = false
+is_late (passage.Unconnected connect) = connect.code == timed_out
+is_late (passage.Unpacked connect) = false
+is_late (passage.Asked connect told) = told.code == timed_out
 
 -- a count rose by one, or to 2^64 - 1, if there was a failure; else it stayed
 abbrev pub CountsBy : Bool → ℕ → ℕ → Type 0

@@ -9,6 +9,8 @@ use Rattle.s7_split.specs.Groups.{groups_of, packed_of}
 use Rattle.s7_split.specs.declared.packing.PackFault.{PackFault}
 use Rattle.s7_plant.specs.declared.request.Request.{Request}
 use Rattle.s7_plant.specs.declared.request.Request.TheVariants.{Read, Write}
+use Rattle.s7_dialogue.specs.Checks.{check_items, octet_count_of}
+use Rattle.s7_dialogue.specs.Codes.{no_fault}
 use Rattle.s7_dialogue.specs.declared.job.Job.{Job}
 use Rattle.s7_dialogue.specs.declared.job.Job.TheVariants.{ReadMany, WriteMany}
 use Rattle.s7_relay.specs.Windows.{far_item, near_code, put_codes}
@@ -74,3 +76,16 @@ fits_pdu pdu _ = true
 abbrev pub fits_one : Option ℕ → Job → Bool
 fits_one None job = true
 fits_one (Some pdu) job = fits_pdu pdu job
+
+-- A JOB PASSES THE CLIENT'S CHECKS at the PDU that was granted: it is a read or a write of several items in which the
+-- client finds no fault
+abbrev pub PassesChecks : ℕ → Job → Type 0
+PassesChecks pdu (ReadMany items) = check_items items true pdu false ≡ no_fault
+PassesChecks pdu (WriteMany items octets) = check_items items (length octets == octet_count_of items) pdu true ≡ no_fault
+PassesChecks pdu _ = ⊥
+
+-- a far job that fits into one telegram passes the client's checks
+abbrev pub FarJobsPassChecks : Type 0
+FarJobsPassChecks =
+    (windows : List Window) (request : Request) (job : Job) (pdu : ℕ) → far_job windows request ≡ Some job
+    → fits_pdu pdu job ≡ true → PassesChecks pdu job

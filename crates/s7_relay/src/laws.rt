@@ -1,6 +1,7 @@
 //! Laws of windows and of replies.
 ghost use Rattle.s7_relay.specs.Laws.{FarItemsLie, FilesAreOne, NearCodesAreCodes, WindowsHaveTexts};
-ghost use Rattle.s7_relay.specs.ReplyLaws.{LostLinksHaveCauses};
+ghost use Rattle.s7_relay.specs.ReplyLaws.{LateAnswersHaveCauses, LostLinksHaveCauses};
+ghost use Rattle.s7_relay.specs.Travel.{FarJobsPassChecks};
 
 /// A law: a windows file states at most one list of windows and has at most one first faulty line, and not both.
 pub fn files_are_one()
@@ -27,4 +28,15 @@ pub fn far_items_lie()
 /// or the far server ended the link.
 pub fn lost_links_have_causes()
     ensures { LostLinksHaveCauses }
+{}
+
+/// A law: a telegram has the error word 8F06 only if its connect or its job ended because the far server didn't answer
+/// in as many polls as allowed.
+pub fn late_answers_have_causes()
+    ensures { LateAnswersHaveCauses }
+{}
+
+/// A law: a far job that fits into one telegram passes the client's checks.
+pub fn far_jobs_pass_checks()
+    ensures { FarJobsPassChecks }
 {}

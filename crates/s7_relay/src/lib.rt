@@ -17,7 +17,8 @@ mod windows;
 
 pub use fault::{WindowFault, WindowKind};
 pub use laws::{
-    far_items_lie, files_are_one, lost_links_have_causes, near_codes_are_codes, windows_have_texts,
+    far_items_lie, far_jobs_pass_checks, files_are_one, late_answers_have_causes,
+    lost_links_have_causes, near_codes_are_codes, windows_have_texts,
 };
 pub use near::{NearCodes, far_item, near_code, near_codes, near_put_code, put_codes};
 pub use passage::{Passage, Relayed};
