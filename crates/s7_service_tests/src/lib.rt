@@ -20,6 +20,8 @@ mod halls;
 #[cfg(test)]
 mod images;
 #[cfg(test)]
+mod passages;
+#[cfg(test)]
 mod plants;
 #[cfg(test)]
 mod relays;

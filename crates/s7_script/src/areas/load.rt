@@ -18,10 +18,10 @@ use std::alloc::Global;
 /// The greatest number of octets of a data block.
 const MOST_OCTETS: usize = 2_097_152;
 
-/// Why areas weren't loaded.
+/// Why a file, or an inline word, wasn't loaded.
 #[derive(Clone, Copy, Debug, PartialEq, Eq)]
 pub enum LoadFault {
-    /// The file doesn't exist, or couldn't be read.
+    /// The file doesn't exist, or it couldn't be read.
     Failed,
     /// The file has more than 67,108,864 octets.
     TooLong,
